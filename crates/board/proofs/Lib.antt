@@ -1,0 +1,3 @@
+-- Lemmas.
+pub mod Cells
+pub mod Laying

@@ -1,0 +1,7 @@
+-- The definitions that the contracts of this crate speak of.
+pub mod Grid
+pub mod Moves
+pub mod Rules
+
+
+pub mod Values

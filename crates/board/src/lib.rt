@@ -1,0 +1,6 @@
+// Boards of planks: the two sides, what may be laid, the board after a plank, reading a board from bytes, and the refusals.
+pub mod board;
+pub mod moves;
+pub mod read;
+pub mod refusal;
+pub mod side;

@@ -1,0 +1,1 @@
+// Why a board or a record is refused.
