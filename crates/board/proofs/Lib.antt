@@ -1,3 +1,5 @@
 -- Lemmas.
 pub mod Cells
 pub mod Laying
+pub mod Squares
+pub mod Checks

@@ -2,6 +2,6 @@
 pub mod Grid
 pub mod Moves
 pub mod Rules
-
-
+pub mod Refusals
+pub mod Reading
 pub mod Values

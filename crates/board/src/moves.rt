@@ -89,7 +89,11 @@ impl Board {
                 free[at] = false;
             }
         }
-        Board { width: self.width, height: self.height, free }
+        Board {
+            width: self.width,
+            height: self.height,
+            free,
+        }
     }
 
     // How many squares are free.

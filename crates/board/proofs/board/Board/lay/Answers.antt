@@ -15,8 +15,7 @@ pub returns : need.returns
 returns c =
     let b = gridOf (c .args .self .now) in
     let s = sideOf (c .args .side) in
-    let covered = c .in-Some .ensures tt in
-    (
+    let covered = c .in-Some .ensures tt in (
       may-fit b s (c .args .place) (c .in-Some .squares) covered ∙ sym (c .if-not-all-free .ensures tt),
       c .without .ensures ∙ laid-without b s (c .args .place) (c .in-Some .squares) (covered .1),
     )

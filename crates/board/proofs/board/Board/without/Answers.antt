@@ -20,7 +20,7 @@ loop-q-again c =
     let inv = c .loop-q .inv in
     let step = taken-step (c .args .self .now .width * c .args .self .now .height) (c .loop-q .free) (c .if-at-lt256 .free) (c .args .squares .now) (c .loop-q .q-index) (c .loop-q-test .taken) inv in
     elim (c .if-at-lt256 .came) [
-      then-at-lt256 w ↦ step (w .free-is)
+      | then-at-lt256 w ↦ step (w .free-is)
       | else-at-lt256 w ↦ step (w .free-is ∙ sym (set-past _ _ false (omega (arith, w .if-at-lt256 .left))))
     ]
 
