@@ -5,3 +5,4 @@ pub mod Rules
 pub mod Refusals
 pub mod Reading
 pub mod Values
+pub mod Known

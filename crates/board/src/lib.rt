@@ -3,4 +3,5 @@ pub mod board;
 pub mod moves;
 pub mod read;
 pub mod refusal;
+pub mod rules;
 pub mod side;
