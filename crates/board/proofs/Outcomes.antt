@@ -58,7 +58,7 @@ module _ (b : Grid) (s : Side) (p : ℕ) (m : may b s p ≡ true) where
 
 -- who wins does not lose
 mutual
-  won-not-lost : {s : Side} {b : Grid} → Wins s b → Loses s b → ⊥
+  pub won-not-lost : {s : Side} {b : Grid} → Wins s b → Loses s b → ⊥
   won-not-lost (by p m l) (whatever f) = lost-not-won l (f p m)
 
   lost-not-won : {s : Side} {b : Grid} → Loses s b → Wins s b → ⊥

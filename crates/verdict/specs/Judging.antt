@@ -1,0 +1,24 @@
+-- What the judge answers, and when it refuses.
+use mathlib.Core.Path.{_≡_}
+use Prim.Native.Nat.{_≤_, _<_}
+use Rattle.std.specs.declared.result.Result.{Result}
+use Rattle.std.specs.declared.result.Result.the-variants.{Ok, Err}
+use Rattle.board.specs.Grid.{Grid, Side, count-free}
+use Rattle.board.specs.Rules.{Answer, lay, lost, Says}
+use Rattle.board.specs.declared.refusal.Refusal.{Refusal}
+use Rattle.board.specs.declared.refusal.Refusal.the-variants.{Count}
+use Rattle.verdict.specs.declared.verdict.Verdict.{Verdict}
+use Rattle.verdict.specs.declared.verdict.Verdict.the-variants.{WinsAt, Lost}
+
+-- a verdict as an answer of the rules
+abbrev pub answerOf : Verdict → Answer
+answerOf (WinsAt p) = lay p
+answerOf Lost = lost
+
+-- a board of at most 20 free squares gets the answer that the rules give; one of more is refused by the count
+abbrev pub Judged : Side → Grid → Result Verdict Refusal → Type 0
+Judged s b (Ok v) = (count-free (b .cells) ≤ 20) × Says s b (answerOf v)
+Judged s b (Err e) = (20 < count-free (b .cells)) × (e ≡ Count)
+
+unfoldable pub One-judgement : Type 0
+One-judgement = (s : Side) (b : Grid) (x y : Result Verdict Refusal) → Judged s b x → Judged s b y → x ≡ y

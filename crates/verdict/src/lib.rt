@@ -1,0 +1,3 @@
+// The verdict: who makes the last move, and where to lay.
+pub mod judge;
+pub mod verdict;

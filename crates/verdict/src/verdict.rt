@@ -1,0 +1,33 @@
+// A verdict, and the line that tells it.
+ghost use Rattle.std.specs.declared.option.Option.the-variants.{Some};
+ghost use Rattle.verdict.specs.Lines.{verdictText};
+use board::side::Side;
+use board::side::SideDisplay;
+use std::fmt;
+
+// For the side to move: the first place from which it makes the last move, or that it has lost.
+#[derive(Clone, Copy, Debug, PartialEq, Eq)]
+pub enum Verdict {
+    WinsAt(u16),
+    Lost,
+}
+
+// A verdict and the side that it is about.
+#[derive(Clone, Copy)]
+pub struct Said {
+    pub side: Side,
+    pub verdict: Verdict,
+}
+
+// "u wins at 0", "f lost"
+pub impl fmt::Display for Said as SaidDisplay {
+    ghost shown = { λ x. Some (verdictText (x .side) (x .verdict)) };
+
+    fn fmt<W: fmt::Write>(&self, f: &mut fmt::Formatter<W>) -> fmt::Result {
+        let side = self.side;
+        match self.verdict {
+            Verdict::WinsAt(place) => write!(f, "{side} wins at {place}"),
+            Verdict::Lost => write!(f, "{side} lost"),
+        }
+    }
+}
