@@ -12,7 +12,7 @@ use Rattle.std.proofs.shelf.Lists.{getD-past}
 use Rattle.std.proofs.shelf.Tests.{and-parts, and-from, or-parts, or-cases, cases-bool, cases-lt, not-true, not-false, not-from-false, both-ways, cases-order}
 use Rattle.board.specs.Grid.{Grid, Side, other, pick, free, count-free}
 use Rattle.board.specs.Moves.{covers, fits, all-free, taken, may, laid}
-use Rattle.board.specs.Rules.{Wins, by, Loses, whatever, Answer, lay, lost, Good, Says, One-answer, One-outcome, some-below, anywhere}
+use Rattle.board.specs.Rules.{Wins, by, Loses, whatever, Answer, lay, lost, Good, Says, One-answer, One-outcome}
 
 -- taking a square never frees one, and taking a free one leaves one fewer
 no-more : (cells : List Bool) (q : ℕ) → count-free (set cells q false) ≤ count-free cells
@@ -63,6 +63,11 @@ mutual
 
   lost-not-won : {s : Side} {b : Grid} → Loses s b → Wins s b → ⊥
   lost-not-won (whatever f) (by p m l) = won-not-lost (f p m) l
+
+-- some place below k passes the test
+unfoldable pub some-below : (ℕ → Bool) → ℕ → Bool
+some-below f zero = false
+some-below f (suc k) = f k || some-below f k
 
 -- a test that fails at every place below k, and one that holds at a place
 below-none : (f : ℕ → Bool) (k : ℕ) → some-below f k ≡ false → (p : ℕ) → p < k → f p ≡ false

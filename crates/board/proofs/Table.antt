@@ -6,9 +6,8 @@ use native.Mathlib.Omega.{arith}
 use Rattle.std.proofs.shelf.Tests.{and-parts}
 use Rattle.board.specs.Grid.{count-free}
 use Rattle.board.specs.Moves.{may, laid}
-use Rattle.board.specs.Rules.{some-below}
 use Rattle.board.specs.Known.{Entry, written, table, Right, All-right, Known-boards}
-use Rattle.board.proofs.Outcomes.{fitting, fits-says}
+use Rattle.board.proofs.Outcomes.{some-below, fitting, fits-says}
 
 abbrev right : Entry → Bool
 right e =

@@ -1,10 +1,9 @@
 -- Who makes the last move, and the verdict that the rules give.
 use mathlib.Core.Path.{_≡_}
 use mathlib.Core.Logic.{_⊎_}
-use mathlib.Core.Bool.{Bool, true, false, not, _&&_, _||_}
-use Prim.Native.Nat.{ℕ, zero, suc, _<_}
-use lib.ListN.{length}
-use Rattle.board.specs.Grid.{Grid, Side, other, pick, count-free}
+use mathlib.Core.Bool.{true}
+use Prim.Native.Nat.{ℕ, _<_}
+use Rattle.board.specs.Grid.{Grid, Side, other}
 use Rattle.board.specs.Moves.{may, laid}
 
 -- the players move in turn, and who is to move and may not has lost
@@ -39,11 +38,6 @@ One-answer = (s : Side) (b : Grid) → (x : Answer) × Says s b x × ((y : Answe
 unfoldable pub One-outcome : Type 0
 One-outcome = (s : Side) (b : Grid) → (Wins s b ⊎ Loses s b) × (Wins s b → Loses s b → ⊥)
 
--- some place below k passes the test
-unfoldable pub some-below : (ℕ → Bool) → ℕ → Bool
-some-below f zero = false
-some-below f (suc k) = f k || some-below f k
-
--- may side s lay anywhere
-abbrev pub anywhere : Grid → Side → Bool
-anywhere b s = some-below (may b s) (length (b .cells))
+-- s may lay nowhere
+abbrev pub Stuck : Side → Grid → Type 0
+Stuck s b = (p : ℕ) → may b s p ≡ true → ⊥

@@ -1,0 +1,3 @@
+-- Lemmas.
+pub mod Planks
+pub mod Standing
