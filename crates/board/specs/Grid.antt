@@ -5,18 +5,12 @@ use mathlib.Core.Bool.{Bool, true, false, not}
 use mathlib.Core.List.{List, [], _∷_}
 use Prim.Native.Nat.{ℕ, _+_, _%_, _<_}
 use lib.ListN.{getD}
+pub use Rattle.games.specs.Game.{Side, other}
 
 -- squares in reading order; true is a free square
 pub record Grid : Type 0 where
   pub width : ℕ
   pub cells : List Bool
-
--- a side is true for the player of upright planks and false for the player of flat ones
-abbrev pub Side : Type 0
-Side = Bool
-
-abbrev pub other : Side → Side
-other s = not s
 
 -- the first where the test holds, else the second
 abbrev pub pick : {A : Type 0} → Bool → A → A → A

@@ -16,19 +16,84 @@ struct Case {
 }
 
 const CASES: [Case; 13] = [
-    Case { name: "A", width: 1, height: 1, squares: b"." },
-    Case { name: "B", width: 1, height: 2, squares: b".." },
-    Case { name: "C", width: 2, height: 1, squares: b".." },
-    Case { name: "D", width: 2, height: 2, squares: b"...." },
-    Case { name: "E", width: 2, height: 2, squares: b"...#" },
-    Case { name: "F", width: 3, height: 3, squares: b"...###..#" },
-    Case { name: "G", width: 5, height: 2, squares: b"..#....#.." },
-    Case { name: "H", width: 5, height: 2, squares: b"..#....#.#" },
-    Case { name: "I", width: 3, height: 3, squares: b"........." },
-    Case { name: "J", width: 4, height: 2, squares: b"........" },
-    Case { name: "K", width: 6, height: 3, squares: b"..#.....#...####.." },
-    Case { name: "L", width: 5, height: 3, squares: b"..............." },
-    Case { name: "M", width: 5, height: 4, squares: b".#.#..#.#.#####..#.." },
+    Case {
+        name: "A",
+        width: 1,
+        height: 1,
+        squares: b".",
+    },
+    Case {
+        name: "B",
+        width: 1,
+        height: 2,
+        squares: b"..",
+    },
+    Case {
+        name: "C",
+        width: 2,
+        height: 1,
+        squares: b"..",
+    },
+    Case {
+        name: "D",
+        width: 2,
+        height: 2,
+        squares: b"....",
+    },
+    Case {
+        name: "E",
+        width: 2,
+        height: 2,
+        squares: b"...#",
+    },
+    Case {
+        name: "F",
+        width: 3,
+        height: 3,
+        squares: b"...###..#",
+    },
+    Case {
+        name: "G",
+        width: 5,
+        height: 2,
+        squares: b"..#....#..",
+    },
+    Case {
+        name: "H",
+        width: 5,
+        height: 2,
+        squares: b"..#....#.#",
+    },
+    Case {
+        name: "I",
+        width: 3,
+        height: 3,
+        squares: b".........",
+    },
+    Case {
+        name: "J",
+        width: 4,
+        height: 2,
+        squares: b"........",
+    },
+    Case {
+        name: "K",
+        width: 6,
+        height: 3,
+        squares: b"..#.....#...####..",
+    },
+    Case {
+        name: "L",
+        width: 5,
+        height: 3,
+        squares: b"...............",
+    },
+    Case {
+        name: "M",
+        width: 5,
+        height: 4,
+        squares: b".#.#..#.#.#####..#..",
+    },
 ];
 
 // The answer for one board with one side to move.
@@ -69,7 +134,11 @@ fn refused(rt: &LibcRuntime) -> io::Result<()> {
     judge_bytes(rt, "a wrong length before a wrong square", b"\x02\x02u..x")?;
     judge_bytes(rt, "a board that goes on", b"\x02\x02u.....")?;
     judge_bytes(rt, "a wrong square", b"\x02\x02u..x.")?;
-    judge_bytes(rt, "too many free squares", b"\x03\x07u.....................")
+    judge_bytes(
+        rt,
+        "too many free squares",
+        b"\x03\x07u.....................",
+    )
 }
 
 // Records: planks laid in turn, the last move, and what is refused.
@@ -79,11 +148,19 @@ fn records(rt: &LibcRuntime) -> io::Result<()> {
     follow_bytes(rt, "two planks", b"\x04\x02u........\x00\x02")?;
     follow_bytes(rt, "to the end", b"\x02\x02u....\x00\x01")?;
     follow_bytes(rt, "nothing to lay from the start", b"\x01\x01u.")?;
-    follow_bytes(rt, "the second plank on the first", b"\x03\x03u.........\x00\x03")?;
+    follow_bytes(
+        rt,
+        "the second plank on the first",
+        b"\x03\x03u.........\x00\x03",
+    )?;
     follow_bytes(rt, "a plank round the edge", b"\x03\x02f......\x02")?;
     follow_bytes(rt, "a record cut short", b"\x02\x02u...")?;
     follow_bytes(rt, "a record with a wrong square", b"\x02\x02u...x\x00")?;
-    follow_bytes(rt, "a large board with a wrong plank", b"\x03\x07u.....................\x14")
+    follow_bytes(
+        rt,
+        "a large board with a wrong plank",
+        b"\x03\x07u.....................\x14",
+    )
 }
 
 fn main(rt: LibcRuntime) -> io::Result<()> {

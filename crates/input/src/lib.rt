@@ -48,7 +48,9 @@ fn read_file(rt: &LibcRuntime, path: &str) -> io::Result<Vec<u8>>
     ensures { λ r. ⌜ made r (λ v. vec-len v ≤ 1048576) ⌝ }
 {
     let mut bytes = Vec::new(rt.alloc());
-    File::open(rt, path)?.take(MOST as u64 + 1).read_to_end(&mut bytes)?;
+    File::open(rt, path)?
+        .take(MOST as u64 + 1)
+        .read_to_end(&mut bytes)?;
     if bytes.len() > MOST {
         return Err(io::Error::other("longer than any board or record"));
     }

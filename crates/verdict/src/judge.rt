@@ -34,7 +34,10 @@ pub fn judge_file(bytes: &[u8]) -> Result<Said, Refusal>
         Err(e) => return Err(e),
     };
     match judge(&setup.board, setup.side) {
-        Ok(verdict) => Ok(Said { side: setup.side, verdict }),
+        Ok(verdict) => Ok(Said {
+            side: setup.side,
+            verdict,
+        }),
         Err(e) => Err(e),
     }
 }

@@ -1,0 +1,21 @@
+-- The proofs, each file above those that rest on it.
+pub mod Lists
+pub mod Induction
+pub mod Compare
+pub mod Sides
+pub mod Rows
+pub mod Stand
+pub mod Options
+pub mod Forms
+pub mod Keep
+pub mod Thin
+pub mod Reduce
+pub mod Sums
+pub mod Beside
+pub mod Tells
+pub mod Along
+pub mod Listed
+pub mod Members
+pub mod Pigeons
+pub mod Counting
+pub mod Test
