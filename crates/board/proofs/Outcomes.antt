@@ -13,6 +13,7 @@ use Rattle.std.proofs.shelf.Tests.{and-parts, and-from, or-parts, or-cases, cas
 use Rattle.board.specs.Grid.{Grid, Side, other, pick, free, count-free}
 use Rattle.board.specs.Moves.{covers, fits, all-free, taken, may, laid}
 use Rattle.board.specs.Rules.{Wins, by, Loses, whatever, Answer, lay, lost, Good, Says, One-answer, One-outcome}
+use Rattle.board.proofs.Covering.{covers-from}
 
 -- taking a square never frees one, and taking a free one leaves one fewer
 no-more : (cells : List Bool) (q : ℕ) → count-free (set cells q false) ≤ count-free cells
@@ -31,17 +32,12 @@ taken-no-more : (cells : List Bool) (qs : List ℕ) → count-free (taken cells 
 taken-no-more cells [] = omega arith
 taken-no-more cells (q ∷ qs) = let h = no-more cells q in let k = taken-no-more (set cells q false) qs in omega arith
 
--- a move covers its place first
-covers-place : (w n : ℕ) (s : Side) (p : ℕ) → (qs : List ℕ) × (covers w n s p ≡ p ∷ qs)
-covers-place w n true p = ((p + w) ∷ [], refl)
-covers-place w n false p = ((p + 1) ∷ [], refl)
-
 module _ (b : Grid) (s : Side) (p : ℕ) (m : may b s p ≡ true) where
   pub may-free : free b p ≡ true
   unfolding may
   may-free =
-      let first = covers-place (b .width) (length (b .cells)) s p in
-      let all : all-free b (p ∷ first .0) ≡ true = ap (all-free b) (sym (first .1)) ∙ and-parts (fits (b .width) (length (b .cells)) s p) _ m .1 in
+      let first = covers-from (b .width) (length (b .cells)) s p in
+      let all : all-free b (p ∷ first .0 ∷ first .1) ≡ true = ap (all-free b) (sym (first .2)) ∙ and-parts (fits (b .width) (length (b .cells)) s p) _ m .1 in
       and-parts (free b p) _ all .0
 
   pub may-below : p < length (b .cells)
@@ -50,10 +46,10 @@ module _ (b : Grid) (s : Side) (p : ℕ) (m : may b s p ≡ true) where
   pub laid-fewer : count-free (laid b s p .cells) < count-free (b .cells)
   unfolding laid
   laid-fewer =
-      let first = covers-place (b .width) (length (b .cells)) s p in
-      let same = ap (λ qs. count-free (taken (b .cells) qs)) (first .1) in
+      let first = covers-from (b .width) (length (b .cells)) s p in
+      let same = ap (λ qs. count-free (taken (b .cells) qs)) (first .2) in
       let less = fewer (b .cells) p may-free in
-      let rest = taken-no-more (set (b .cells) p false) (first .0) in
+      let rest = taken-no-more (set (b .cells) p false) (first .0 ∷ first .1) in
       omega arith
 
 -- who wins does not lose

@@ -5,3 +5,4 @@ pub mod read;
 pub mod refusal;
 pub mod rules;
 pub mod side;
+pub mod theory;
