@@ -2,10 +2,18 @@
 ghost use Rattle.board.specs.Covering.{Moves-law};
 ghost use Rattle.board.specs.Play.{Play-wins};
 ghost use Rattle.board.specs.Tree.{Tree-law, Tree-fuel, Board-games};
+ghost use Rattle.board.specs.Ways.{Ways-law};
 
 // A lawful move covers its place and at least one square more, each a neighbour of one before it, and all of them free.
 pub fn moves_stand() -> u8
     ensures { λ _. ⌜ Moves-law ⌝ }
+{
+    0
+}
+
+// The neighbours of a square are those that lie one of the four ways from it.
+pub fn ways_stand() -> u8
+    ensures { λ _. ⌜ Ways-law ⌝ }
 {
     0
 }
