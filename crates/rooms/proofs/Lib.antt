@@ -1,0 +1,5 @@
+-- Lemmas.
+pub mod Lists
+pub mod Reach
+pub mod Through
+pub mod Beside

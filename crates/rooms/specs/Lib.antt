@@ -1,0 +1,4 @@
+-- The definitions that the contracts of this crate speak of.
+pub mod Walks
+pub mod Rooms
+pub mod Games

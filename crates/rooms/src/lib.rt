@@ -1,0 +1,2 @@
+// The rooms of a board.
+pub mod theory;
