@@ -56,7 +56,7 @@ ways-law b p q wide = (to, λ x. from (x .0) (x .1))
     from Down e = inl (inl e, λ same. omega arith)
 
 -- one square lies there
-one-there : (b : Grid) (w : Way) (p q r : ℕ) → Toward b w p q → Toward b w p r → q ≡ r
+pub one-there : (b : Grid) (w : Way) (p q r : ℕ) → Toward b w p q → Toward b w p r → q ≡ r
 unfolding Toward
 one-there b Up p q r x y = omega arith
 one-there b Left p q r x y = omega (arith, x .0, y .0)

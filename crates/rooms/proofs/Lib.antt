@@ -3,3 +3,6 @@ pub mod Lists
 pub mod Reach
 pub mod Through
 pub mod Beside
+pub mod Growing
+pub mod Walking
+pub mod Finding

@@ -9,7 +9,7 @@ use lib.Dec.{eqb}
 use lib.ListN.{length, getD}
 use Rattle.std.specs.shelf.Lists.{All, Has}
 use Rattle.std.specs.shelf.Sorted.{Rising}
-use Rattle.std.proofs.shelf.Elements.{all-has, has-getD, all-getD}
+use Rattle.std.proofs.shelf.Elements.{all-has, all-push, has-getD, all-getD}
 use Rattle.std.proofs.shelf.Sums.{sumBy-cons, sumBy-push}
 use Rattle.std.proofs.shelf.Tests.{eq-eqb, ne-eqb, cases-eq, cases-order}
 use Rattle.games.proofs.Pigeons.{pigeons}
@@ -49,6 +49,10 @@ rise-place f xs i j d up hi hj e =
     ⊎-elim (λ eq. eq)
     (⊎-elim (λ less. absurd (let k = rise-at f xs i j d up less hj in omega arith)) (λ less. absurd (let k = rise-at f xs j i d up less hi in omega arith)))
     (cases-order i j)
+
+pub rise-push : {X : Type 0} (f : X → ℕ) (xs : List X) (y : X) → Rise f xs → All (λ x. f x < f y) xs → Rise f (xs ++ y ∷ [])
+rise-push f [] y up below = (tt, tt)
+rise-push f (x ∷ xs) y up below = (all-push (λ z. f x < f z) xs y (up .0) (below .0), rise-push f xs y (up .1) (below .1))
 
 -- two rising lists that have the same things are the same
 pub rise-same :

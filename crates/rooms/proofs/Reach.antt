@@ -11,7 +11,7 @@ use Rattle.std.proofs.shelf.Elements.{all-has, all-weaker}
 use Rattle.board.specs.Grid.{Grid, free, Next}
 use Rattle.board.proofs.Edges.{next-sym}
 use Rattle.rooms.specs.Walks.{Walk, stay, go, Rise, Apart, first}
-use Rattle.rooms.specs.Rooms.{Room, Rooms, One-list, Larger, Larger-law}
+use Rattle.rooms.specs.Rooms.{Room, Rooms, One-list, Many, Larger, Larger-law}
 use Rattle.rooms.proofs.Lists.{has-here, has-there, rise-same, apart-first, no-longer}
 
 pub walk-trans : {b : Grid} {p q r : ℕ} → Walk b p q → Walk b q r → Walk b p r
@@ -64,8 +64,8 @@ alone-or-near (go r n f w) = inr (r, n, f)
 -- squares reached from one that has free neighbours only in the list rs are no more than a room of it has, or it is alone
 pub few-reached :
     (n : ℕ) (b : Grid) (rs : List (List ℕ)) → 1 ≤ n → All (Room b) rs → All (λ r. length r ≤ n) rs → (p : ℕ) →
-    ((q : ℕ) → Next b p q → free b q ≡ true → (r : List ℕ) × Has rs r × Has r p) → Larger n b p → ⊥
-few-reached n b rs some each few p near x = go (x .squares) (x .apart) (x .reached) (x .many)
+    ((q : ℕ) → Next b p q → free b q ≡ true → (r : List ℕ) × Has rs r × Has r p) → Many n b p → ⊥
+few-reached n b rs some each few p near x = go (x .squares) (x .apart) (x .reached) (x .more)
   where
     inner : (q : ℕ) → Next b p q → free b q ≡ true → (qs : List ℕ) → Apart qs → All (Walk b p) qs → n < length qs → ⊥
     inner q nq fq qs apart reached many =
@@ -86,4 +86,4 @@ few-reached n b rs some each few p near x = go (x .squares) (x .apart) (x .reach
 
 pub larger-law : Larger-law
 unfolding Larger-law
-larger-law n b rs some x few p large = few-reached n b rs some (x .each) few p (λ q near f. x .whole p q (large .start) f near) large
+larger-law n b rs some x few p large = few-reached n b rs some (x .each) few p (λ q near f. x .whole p q (large .start) f near) (large .many)

@@ -2,3 +2,5 @@
 pub mod Walks
 pub mod Rooms
 pub mod Games
+pub mod Growth
+pub mod Values

@@ -26,14 +26,18 @@ pub record Rooms (b : Grid) (rs : List (List ℕ)) : Type 0 where
 unfoldable pub One-list : Type 0
 One-list = (b : Grid) (rs qs : List (List ℕ)) → Rooms b rs → Rooms b qs → rs ≡ qs
 
+-- more than n squares are reached from p
+pub record Many (n : ℕ) (b : Grid) (p : ℕ) : Type 0 where
+  pub squares : List ℕ
+  pub more : n < length squares
+  pub apart : Apart squares
+  pub reached : All (Walk b p) squares
+
 -- p is the first of the squares that are reached from it, and those are more than n
 pub record Larger (n : ℕ) (b : Grid) (p : ℕ) : Type 0 where
   pub start : free b p ≡ true
   pub least : (q : ℕ) → Walk b p q → p ≤ q
-  pub squares : List ℕ
-  pub many : n < length squares
-  pub apart : Apart squares
-  pub reached : All (Walk b p) squares
+  pub many : Many n b p
 
 -- where no room has more than n squares, from no square are more than n reached
 unfoldable pub Larger-law : Type 0

@@ -1,2 +1,6 @@
-// The rooms of a board.
+// The rooms of a board: finding them, and what they are to the board.
+pub mod find;
+pub mod list;
+pub mod read;
+pub mod room;
 pub mod theory;
