@@ -2,12 +2,12 @@
 use mathlib.Core.Path.{_≡_, refl, sym, ap, subst, _∙_}
 use mathlib.Core.Logic.{_⊎_, inl, inr, ⊎-elim}
 use mathlib.Core.Bool.{Bool, true, false}
-use mathlib.Core.List.{List, [], _∷_, _++_}
+use mathlib.Core.List.{List, [], _∷_, _++_, map}
 use Prim.Native.Nat.{ℕ, zero, suc, _+_, _≤_, _<_}
 use native.Mathlib.Omega.{arith}
-use lib.ListN.{length, getD, replicate}
+use lib.ListN.{length, getD, set, take, replicate}
 use Rattle.std.specs.shelf.Lists.{All, Has}
-use Rattle.std.proofs.shelf.Lists.{getD-replicate, getD-past, length-push, length-replicate}
+use Rattle.std.proofs.shelf.Lists.{getD-replicate, getD-past, length-push, length-replicate, length-map, length-take, length-take-le, take-more-set, map-push}
 use Rattle.std.proofs.shelf.Elements.{all-has, all-push, all-weaker, has-append-left, has-push, has-getD}
 use Rattle.std.proofs.shelf.Tests.{both-ways, cases-lt, cases-order}
 use Rattle.board.specs.Grid.{Grid, pick, free, Edge, Next, count-free}
@@ -16,7 +16,8 @@ use Rattle.rooms.specs.Walks.{Walk, Rise, first}
 use Rattle.rooms.specs.Rooms.{Room, Rooms, Many, Larger}
 use Rattle.rooms.specs.Games.{Rooms-law}
 use Rattle.rooms.specs.Growth.{marked, Grown, Ended}
-use Rattle.rooms.specs.Values.{Small-rooms, First-larger}
+use Rattle.rooms.specs.Values.{squaresOf, Small-rooms, First-larger}
+use Rattle.rooms.specs.declared.room.Room.{Room as OneRoom}
 use Rattle.rooms.proofs.Lists.{rise-at, rise-push}
 use Rattle.rooms.proofs.Reach.{walk-trans, walk-back, walk-keeps, few-reached}
 use Rattle.rooms.proofs.Beside.{rooms-law}
@@ -73,8 +74,8 @@ module _ (b : Grid) (p : ℕ) (old : List Bool) (rs : List (List ℕ)) (x : Sofa
     before = all-weaker (λ r. first r < p) (λ r. first r < p + 1) (λ r h. omega arith) rs (x .before);
     closed = x .closed;
     below = λ q less f.
-      ⊎-elim (λ same. subst (λ t. marked old t ≡ true) (sym same) (known (subst (λ t. free b t ≡ true) same f)))
-      (⊎-elim (λ earlier. x .below q earlier f) (λ later. absurd (omega arith))) (cases-order q p);
+        ⊎-elim (λ same. subst (λ t. marked old t ≡ true) (sym same) (known (subst (λ t. free b t ≡ true) same f)))
+        (⊎-elim (λ earlier. x .below q earlier f) (λ later. absurd (omega arith))) (cases-order q p);
     covered = x .covered;
     counted = x .counted;
   }
@@ -94,7 +95,7 @@ module _ (b : Grid) (p : ℕ) (old : List Bool) (rs : List (List ℕ)) (x : Sofa
     found-larger many = record {
       large = record { start = start; least = least; many = many };
       none-before = λ q less large.
-        few-reached 16 b rs (omega arith) (x .each) (x .small) q (λ r near f. x .covered q r (x .below q less (large .start)) near f) (large .many);
+          few-reached 16 b rs (omega arith) (x .each) (x .small) q (λ r near f. x .covered q r (x .below q less (large .start)) near f) (large .many);
     }
 
     module _ (seen : List Bool) (qs : List ℕ) (e : Ended b p old seen qs) where
@@ -140,13 +141,13 @@ module _ (b : Grid) (p : ℕ) (old : List Bool) (rs : List (List ℕ)) (x : Sofa
         closed = new-closed;
         below = new-below;
         covered = λ q r m near f.
-          ⊎-elim (λ was. x .covered q r was near f)
-          (λ h.
-          let g = closed-in q r h near f in
-          let hk = h .1 in
-          let gk = g .1 in
-          let same : h .0 ≡ g .0 = omega arith in
-          absurd (next-apart b q r near (sym (h .2 0) ∙ ap (λ k. getD qs k 0) same ∙ g .2 0))) (grown .marks q m);
+            ⊎-elim (λ was. x .covered q r was near f)
+            (λ h.
+            let g = closed-in q r h near f in
+            let hk = h .1 in
+            let gk = g .1 in
+            let same : h .0 ≡ g .0 = omega arith in
+            absurd (next-apart b q r near (sym (h .2 0) ∙ ap (λ k. getD qs k 0) same ∙ g .2 0))) (grown .marks q m);
         counted = let k = grown .counted in let l = x .counted in omega arith;
       }
 
@@ -171,8 +172,8 @@ module _ (b : Grid) (p : ℕ) (old : List Bool) (rs : List (List ℕ)) (x : Sofa
         closed = new-closed;
         below = new-below;
         covered = λ q r m near f.
-          ⊎-elim (λ was. let y = x .covered q r was near f in (y .0, has-append-left rs (qs ∷ []) (y .0) (y .1), y .2))
-          (λ h. (qs, has-push rs qs, h)) (grown .marks q m);
+            ⊎-elim (λ was. let y = x .covered q r was near f in (y .0, has-append-left rs (qs ∷ []) (y .0) (y .1), y .2))
+            (λ h. (qs, has-push rs qs, h)) (grown .marks q m);
         counted = let k = grown .counted in let l = x .counted in let n = length-push rs qs in omega arith;
       }
 
@@ -186,3 +187,26 @@ sofar-done b p seen rs wide x all =
       rising = x .rising;
     } in
     record { rooms = rooms; small = x .small; law = λ s. rooms-law s b rs wide rooms }
+
+-- a room of the program has at most 16 squares
+pub squares-few : (r : OneRoom) → length (squaresOf r) ≤ 16
+unfolding squaresOf
+squares-few r = let k = length-take (r .len) (r .squares) in let l = r .few in omega arith
+
+-- there is a place for one room more, since each has two marks
+pub room-left :
+    (b : Grid) (p : ℕ) (seen : List Bool) (rooms : List OneRoom) (len : ℕ) (qs : List ℕ) → Sofar b p seen (map squaresOf (take len rooms) ++ qs ∷ []) →
+    length seen ≡ 256 → len ≤ length rooms → len < 128
+room-left b p seen rooms len qs x long fits-in =
+    let rs = map squaresOf (take len rooms) in
+    let k = length-push rs qs in
+    let l = length-map (take len rooms) squaresOf ∙ length-take-le len rooms fits-in in
+    let m = few-marks seen in
+    let n = x .counted in
+    omega arith
+
+-- it is written behind the others
+pub room-written :
+    (rooms : List OneRoom) (len : ℕ) (r : OneRoom) → len < length rooms →
+    map squaresOf (take len rooms) ++ squaresOf r ∷ [] ≡ map squaresOf (take (len + 1) (set rooms len r))
+room-written rooms len r less = sym (ap (map squaresOf) (take-more-set rooms len r less) ∙ map-push squaresOf (take len rooms) r)

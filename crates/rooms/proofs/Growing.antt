@@ -61,8 +61,8 @@ grow b p old seen qs q x walk open-q new less = record {
       (all-weaker (λ r. marked seen r ≡ true) (λ r. marked (set seen q true) r ≡ true) (λ r e. mark-keeps seen q r less e) qs (x .shown))
       (getD-set-same seen q true false less);
   marks = λ r e.
-    ⊎-elim (λ same. inr (subst (Has (qs ++ q ∷ [])) (sym same) (has-push qs q)))
-    (λ other. ⊎-elim inl (λ h. inr (has-append-left qs (q ∷ []) r h)) (x .marks r (sym (getD-set-other seen q r true false other) ∙ e))) (cases-eq r q);
+      ⊎-elim (λ same. inr (subst (Has (qs ++ q ∷ [])) (sym same) (has-push qs q)))
+      (λ other. ⊎-elim inl (λ h. inr (has-append-left qs (q ∷ []) r h)) (x .marks r (sym (getD-set-other seen q r true false other) ∙ e))) (cases-eq r q);
   kept = λ r e. mark-keeps seen q r less (x .kept r e);
   counted = let k = count-mark seen q less new in let l = length-push qs q in let m = x .counted in omega arith;
 }
@@ -78,7 +78,7 @@ grown-start b p old open-p new less = record {
   fresh = (new, tt);
   shown = (getD-set-same old p true false less, tt);
   marks = λ r e.
-    ⊎-elim (λ same. inr (0, omega arith, λ d. sym same)) (λ other. inl (sym (getD-set-other old p r true false other) ∙ e)) (cases-eq r p);
+      ⊎-elim (λ same. inr (0, omega arith, λ d. sym same)) (λ other. inl (sym (getD-set-other old p r true false other) ∙ e)) (cases-eq r p);
   kept = λ r e. mark-keeps old p r less e;
   counted = count-mark old p less new;
 }

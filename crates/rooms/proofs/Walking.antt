@@ -61,17 +61,17 @@ module _ (b : Grid) (wide : 0 < b .width) (p : ℕ) where
         some = omega arith;
         few = few;
         grown = λ old g.
-          v .grown p old (x .grown old g)
-          (walking-has squares at x less);
+            v .grown p old (x .grown old g)
+            (walking-has squares at x less);
         settled = λ k q below near f.
-          let same : getD squares′ k 0 ≡ getD squares k 0 =
+            let same : getD squares′ k 0 ≡ getD squares k 0 =
             sym (getD-take n squares′ k 0 (omega arith)) ∙ v .same k (omega arith) ∙ getD-take len squares k 0 (omega arith) in
-          let near-old = subst (λ t. Next b t q) same near in
-          ⊎-elim
-          (λ last.
-          let way = ways-law b (getD squares at 0) q wide .0 (subst (λ t. Next b (getD squares t 0) q) last near-old) in
-          all-has (λ w. (r : ℕ) → Toward b w (getD squares at 0) r → free b r ≡ true → marked seen′ r ≡ true) all-ways (way .0) (v .settled) (way-listed (way .0)) q (way .1) f)
-          (⊎-elim (λ earlier. v .kept q (x .settled k q earlier near-old f)) (λ later. absurd (omega arith))) (cases-order k at);
+            let near-old = subst (λ t. Next b t q) same near in
+            ⊎-elim
+            (λ last.
+            let way = ways-law b (getD squares at 0) q wide .0 (subst (λ t. Next b (getD squares t 0) q) last near-old) in
+            all-has (λ w. (r : ℕ) → Toward b w (getD squares at 0) r → free b r ≡ true → marked seen′ r ≡ true) all-ways (way .0) (v .settled) (way-listed (way .0)) q (way .1) f)
+            (⊎-elim (λ earlier. v .kept q (x .settled k q earlier near-old f)) (λ later. absurd (omega arith))) (cases-order k at);
       }
 
   -- every square was visited, and the squares are sorted
@@ -97,8 +97,8 @@ module _ (b : Grid) (wide : 0 < b .width) (p : ℕ) where
         };
         rising = rise-sorted sorted up apart;
         settled = λ q r h near f.
-          let place = has-shuffled sorted qs q (shuffled-sym qs sorted shuffled) h in
-          let below = place .1 in
-          x .settled (place .0) r (omega arith)
-          (subst (λ t. Next b t r) (sym (place .2 0) ∙ getD-take len squares (place .0) 0 (omega arith)) near) f;
+            let place = has-shuffled sorted qs q (shuffled-sym qs sorted shuffled) h in
+            let below = place .1 in
+            x .settled (place .0) r (omega arith)
+            (subst (λ t. Next b t r) (sym (place .2 0) ∙ getD-take len squares (place .0) 0 (omega arith)) near) f;
       }

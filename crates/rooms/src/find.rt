@@ -11,7 +11,8 @@ use crate::list::Rooms;
 use crate::room::Room;
 use board::board::Board;
 use board::refusal::Refusal;
-use board::ways::{Way, WAYS};
+use board::ways::WAYS;
+use board::ways::Way;
 
 // The free neighbours of a square that were not seen before are marked and join the squares found; None where there is no place left.
 fn visit(
@@ -91,4 +92,18 @@ pub fn all_rooms(board: &Board) -> Result<Rooms, Refusal>
         len += 1;
     }
     Ok(Rooms { rooms, len })
+}
+
+// The rooms of a board that is to be judged: at most 32, of at most 16 squares each. A room that is too large is refused before too many rooms.
+pub fn judged_rooms(board: &Board) -> Result<Rooms, Refusal>
+    ensures { λ r. ⌜ Judged (gridOf (now (board .entry))) r ⌝ }
+{
+    let rooms = match all_rooms(board) {
+        Ok(rooms) => rooms,
+        Err(e) => return Err(e),
+    };
+    if let Some(room) = rooms.as_slice().get(32) {
+        return Err(Refusal::Rooms(room.first()));
+    }
+    Ok(rooms)
 }

@@ -31,7 +31,7 @@ loop-way-again-then-seen-q c =
       inv .1,
       inv .2,
       visited-seen (gridOf (c .args .board .now)) (board-wide (c .args .board .now)) (c .args .from) (c .loop-way .way-index) Up (c .loop-way-test .taken) _ _ _ _ (inv .3) (c .in-Some .q)
-      (c .in-Some .ensures tt) (c .if-seen-q .taken),
+          (c .in-Some .ensures tt) (c .if-seen-q .taken),
     )
 
 pub returns-then-n-eq16 : need.returns-then-n-eq16
@@ -53,7 +53,7 @@ loop-way-again c =
       length-set (c .loop-way .squares) _ _ ∙ inv .1,
       omega arith,
       visited-new (gridOf (c .args .board .now)) (board-wide (c .args .board .now)) (c .args .from) (c .loop-way .way-index) Up (c .loop-way-test .taken) _ _ _ (c .loop-way .squares)
-      (c .loop-way .n) (inv .3) (c .in-Some .q) (c .in-Some .ensures tt) (c .if-seen-q .left) (omega arith) (omega arith),
+          (c .loop-way .n) (inv .3) (c .in-Some .q) (c .in-Some .ensures tt) (c .if-seen-q .left) (omega arith) (omega arith),
     )
 
 pub returns : need.returns
@@ -61,6 +61,6 @@ unfolding Visit
 returns c =
     let inv = c .loop-way .inv in (
       subst (λ ws. Visited (gridOf (c .args .board .now)) (c .args .from) ws (c .args .seen .now) (c .loop-way .seen) (take (c .args .len) (c .args .squares .now)) (take (c .loop-way .n) (c .loop-way .squares)))
-      (take-all (c .loop-way .way-index) all-ways (c .loop-way-test .left)) (inv .3),
+          (take-all (c .loop-way .way-index) all-ways (c .loop-way-test .left)) (inv .3),
       inv .2,
     )
