@@ -7,7 +7,7 @@ use Prim.Native.Nat.{ℕ, zero, suc, _+_, _≤_, _<_}
 use native.Mathlib.Omega.{arith}
 use lib.ListN.{length, getD, set, take, replicate}
 use Rattle.std.specs.shelf.Lists.{All, Has}
-use Rattle.std.proofs.shelf.Lists.{getD-replicate, getD-past, length-push, length-replicate, length-map, length-take, length-take-le, take-more-set, map-push}
+use Rattle.std.proofs.shelf.Lists.{getD-replicate, getD-past, length-push, length-replicate, length-map, length-take, length-take-le, take-more-set, map-push, getD-map}
 use Rattle.std.proofs.shelf.Elements.{all-has, all-push, all-weaker, has-append-left, has-push, has-getD}
 use Rattle.std.proofs.shelf.Tests.{both-ways, cases-lt, cases-order}
 use Rattle.board.specs.Grid.{Grid, pick, free, Edge, Next, count-free}
@@ -18,8 +18,8 @@ use Rattle.rooms.specs.Games.{Rooms-law}
 use Rattle.rooms.specs.Growth.{marked, Grown, Ended}
 use Rattle.rooms.specs.Values.{squaresOf, Small-rooms, First-larger}
 use Rattle.rooms.specs.declared.room.Room.{Room as OneRoom}
-use Rattle.rooms.proofs.Lists.{rise-at, rise-push}
-use Rattle.rooms.proofs.Reach.{walk-trans, walk-back, walk-keeps, few-reached}
+use Rattle.rooms.proofs.Lists.{rise-push}
+use Rattle.rooms.proofs.Reach.{walk-trans, walk-back, walk-keeps, many-room, first-least}
 use Rattle.rooms.proofs.Beside.{rooms-law}
 
 -- the squares below p were looked at: the marked squares are closed under free neighbours, and rs are the rooms among them
@@ -95,7 +95,9 @@ module _ (b : Grid) (p : ℕ) (old : List Bool) (rs : List (List ℕ)) (x : Sofa
     found-larger many = record {
       large = record { start = start; least = least; many = many };
       none-before = λ q less large.
-          few-reached 16 b rs (omega arith) (x .each) (x .small) q (λ r near f. x .covered q r (x .below q less (large .start)) near f) (large .many);
+          let r = many-room 16 b rs (omega arith) (x .each) q (λ t near f. x .covered q t (x .below q less (large .start)) near f) (large .many) in
+          let few = all-has (λ t. length t ≤ 16) rs (r .0) (x .small) (r .1) in
+          omega (arith, r .3);
     }
 
     module _ (seen : List Bool) (qs : List ℕ) (e : Ended b p old seen qs) where
@@ -123,13 +125,10 @@ module _ (b : Grid) (p : ℕ) (old : List Bool) (rs : List (List ℕ)) (x : Sofa
       -- what was found begins at p
       first-is : first qs ≡ p
       first-is =
-          let at = grown .start in
-          let inside = at .1 in
-          let value = at .2 0 in
+          let at = grown .start .1 in
           let low = least (first qs) (all-has (Walk b p) qs (first qs) (grown .reached) (has-getD qs 0 0 (omega arith))) in
-          ⊎-elim (λ zero-place. ap (λ k. getD qs k 0) zero-place ∙ value)
-          (⊎-elim (λ later. absurd (let k = rise-at (λ q. q) qs 0 (at .0) 0 (e .rising) later inside in omega arith)) (λ never. absurd (omega arith)))
-          (cases-order 0 (at .0))
+          let high = first-least qs (e .rising) p (grown .start) in
+          omega arith
 
       -- a square alone is no room, and changes nothing
       pub sofar-single : length qs < 2 → Sofar b (p + 1) seen rs
@@ -210,3 +209,10 @@ pub room-written :
     (rooms : List OneRoom) (len : ℕ) (r : OneRoom) → len < length rooms →
     map squaresOf (take len rooms) ++ squaresOf r ∷ [] ≡ map squaresOf (take (len + 1) (set rooms len r))
 room-written rooms len r less = sym (ap (map squaresOf) (take-more-set rooms len r less) ∙ map-push squaresOf (take len rooms) r)
+
+-- a slice of all rooms: how many they are, and one of them
+pub slice-long : (slice : List OneRoom) (rs : List (List ℕ)) → map squaresOf slice ≡ rs → length slice ≡ length rs
+slice-long slice rs e = sym (length-map slice squaresOf) ∙ ap length e
+
+pub slice-at : (slice : List OneRoom) (rs : List (List ℕ)) (i : ℕ) (r : OneRoom) → map squaresOf slice ≡ rs → i < length slice → r ≡ getD slice i r → squaresOf r ≡ getD rs i []
+slice-at slice rs i r e less at = ap squaresOf at ∙ sym (getD-map squaresOf slice i r [] less) ∙ ap (λ qs. getD qs i []) e

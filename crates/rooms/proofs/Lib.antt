@@ -6,3 +6,4 @@ pub mod Beside
 pub mod Growing
 pub mod Walking
 pub mod Finding
+pub mod Answering

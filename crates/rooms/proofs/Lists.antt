@@ -128,6 +128,16 @@ no-longer ps qs apart each =
     (λ i less. let h = all-has (Has qs) ps (getD ps i 0) each (has-getD ps i 0 less) in (h .0, h .1, sym (h .2 0)))
     (λ i j k li lj e e′. apart-places ps apart i j li lj (e ∙ sym e′))
 
+-- a rising list has no repetition
+pub rise-apart : (ps : List ℕ) → Rise (λ q. q) ps → Apart ps
+rise-apart [] up q = omega arith
+rise-apart (p ∷ ps) up q =
+    let k = times-cons q p ps in
+    let l = rise-apart ps (up .1) q in
+    ⊎-elim
+    (λ e. let m = times-none q ps (λ h. let n = all-has (λ r. p < r) ps q (up .0) h in omega arith) in let o = at-most-once p q in omega arith)
+    (λ ne. let m = never p q ne in omega arith) (cases-eq p q)
+
 -- a sorted list without repetition rises
 pub rise-sorted : (ps : List ℕ) → Rising ps → Apart ps → Rise (λ q. q) ps
 rise-sorted [] up apart = tt

@@ -7,12 +7,13 @@ use Prim.Native.Nat.{ℕ, zero, suc, _≤_, _<_}
 use native.Mathlib.Omega.{arith}
 use lib.ListN.{length, getD}
 use Rattle.std.specs.shelf.Lists.{All, Has}
-use Rattle.std.proofs.shelf.Elements.{all-has, all-weaker}
+use Rattle.std.proofs.shelf.Elements.{all-has, all-weaker, has-getD}
+use Rattle.std.proofs.shelf.Tests.{cases-order}
 use Rattle.board.specs.Grid.{Grid, free, Next}
 use Rattle.board.proofs.Edges.{next-sym}
 use Rattle.rooms.specs.Walks.{Walk, stay, go, Rise, Apart, first}
 use Rattle.rooms.specs.Rooms.{Room, Rooms, One-list, Many, Larger, Larger-law}
-use Rattle.rooms.proofs.Lists.{has-here, has-there, rise-same, apart-first, no-longer}
+use Rattle.rooms.proofs.Lists.{has-here, has-there, all-by-has, rise-at, rise-same, rise-apart, apart-first, no-longer}
 
 pub walk-trans : {b : Grid} {p q r : ℕ} → Walk b p q → Walk b q r → Walk b p r
 walk-trans stay w = w
@@ -61,29 +62,55 @@ alone-or-near : {b : Grid} {p q : ℕ} → Walk b p q → (p ≡ q) ⊎ ((r : �
 alone-or-near stay = inl refl
 alone-or-near (go r n f w) = inr (r, n, f)
 
--- squares reached from one that has free neighbours only in the list rs are no more than a room of it has, or it is alone
-pub few-reached :
-    (n : ℕ) (b : Grid) (rs : List (List ℕ)) → 1 ≤ n → All (Room b) rs → All (λ r. length r ≤ n) rs → (p : ℕ) →
-    ((q : ℕ) → Next b p q → free b q ≡ true → (r : List ℕ) × Has rs r × Has r p) → Many n b p → ⊥
-few-reached n b rs some each few p near x = go (x .squares) (x .apart) (x .reached) (x .more)
+-- more than n squares are reached from p, and where p has a free neighbour it lies in a room of rs: that room has more than n squares
+pub many-room :
+    (n : ℕ) (b : Grid) (rs : List (List ℕ)) → 1 ≤ n → All (Room b) rs → (p : ℕ) →
+    ((q : ℕ) → Next b p q → free b q ≡ true → (r : List ℕ) × Has rs r × Has r p) → Many n b p → (r : List ℕ) × Has rs r × Has r p × (n < length r)
+many-room n b rs some each p near x = step (x .squares) (x .apart) (x .reached) (x .more)
   where
-    inner : (q : ℕ) → Next b p q → free b q ≡ true → (qs : List ℕ) → Apart qs → All (Walk b p) qs → n < length qs → ⊥
-    inner q nq fq qs apart reached many =
+    inner : (q : ℕ) → Next b p q → free b q ≡ true → (qs : List ℕ) → Apart qs → All (Walk b p) qs → n < length qs → (r : List ℕ) × Has rs r × Has r p × (n < length r)
+    inner q nq fq qs apart reached more =
         let r = near q nq fq in
         let room = all-has (Room b) rs (r .0) each (r .1) in
         let k = no-longer qs (r .0) apart (all-weaker (Walk b p) (Has (r .0)) (λ t w. walk-keeps (Has (r .0)) (room .closed) w (r .2)) qs reached) in
-        let l = all-has (λ t. length t ≤ n) rs (r .0) few (r .1) in
-        omega arith
+        (r .0, r .1, r .2, omega arith)
 
     -- of two squares one is another than p
-    go : (qs : List ℕ) → Apart qs → All (Walk b p) qs → n < length qs → ⊥
-    go [] apart reached many = omega arith
-    go (t ∷ []) apart reached many = omega arith
-    go (t ∷ u ∷ qs) apart reached many =
+    step : (qs : List ℕ) → Apart qs → All (Walk b p) qs → n < length qs → (r : List ℕ) × Has rs r × Has r p × (n < length r)
+    step [] apart reached more = absurd (omega arith)
+    step (t ∷ []) apart reached more = absurd (omega arith)
+    step (t ∷ u ∷ qs) apart reached more =
         ⊎-elim
-        (λ e. ⊎-elim (λ f. apart-first t (u ∷ qs) apart (subst (Has (u ∷ qs)) (sym f ∙ e) (has-here u qs))) (λ r. inner (r .0) (r .1) (r .2) (t ∷ u ∷ qs) apart reached many) (alone-or-near (reached .1 .0)))
-        (λ r. inner (r .0) (r .1) (r .2) (t ∷ u ∷ qs) apart reached many) (alone-or-near (reached .0))
+        (λ e.
+        ⊎-elim (λ f. absurd (apart-first t (u ∷ qs) apart (subst (Has (u ∷ qs)) (sym f ∙ e) (has-here u qs))))
+        (λ r. inner (r .0) (r .1) (r .2) (t ∷ u ∷ qs) apart reached more) (alone-or-near (reached .1 .0)))
+        (λ r. inner (r .0) (r .1) (r .2) (t ∷ u ∷ qs) apart reached more) (alone-or-near (reached .0))
+
+-- the first square of a rising list is the least
+pub first-least : (qs : List ℕ) → Rise (λ q. q) qs → (q : ℕ) → Has qs q → first qs ≤ q
+first-least qs up q h =
+    let value = h .2 0 in
+    ⊎-elim (λ zero-place. let e = ap (λ k. getD qs k 0) zero-place in omega arith)
+    (⊎-elim (λ later. let k = rise-at (λ t. t) qs 0 (h .0) 0 up later (h .1) in omega arith) (λ never. absurd (omega arith))) (cases-order 0 (h .0))
 
 pub larger-law : Larger-law
 unfolding Larger-law
-larger-law n b rs some x few p large = few-reached n b rs some (x .each) few p (λ q near f. x .whole p q (large .start) f near) (large .many)
+larger-law n b rs some x p = (to, λ r. subst (Larger n b) (r .3) (from (r .0) (r .1) (r .2)))
+  where
+    to : Larger n b p → (r : List ℕ) × Has rs r × (n < length r) × (first r ≡ p)
+    to large =
+        let r = many-room n b rs some (x .each) p (λ q near f. x .whole p q (large .start) f near) (large .many) in
+        let room = all-has (Room b) rs (r .0) (x .each) (r .1) in
+        let low = first-least (r .0) (room .rising) p (r .2) in
+        let high = large .least (first (r .0)) (room .linked p (first (r .0)) (r .2) (has-getD (r .0) 0 0 (omega (arith, room .two)))) in
+        (r .0, r .1, r .3, omega arith)
+
+    from : (r : List ℕ) → Has rs r → n < length r → Larger n b (first r)
+    from r h more =
+        let room = all-has (Room b) rs r (x .each) h in
+        let here = has-getD r 0 0 (omega (arith, room .two)) in
+        record {
+          start = room .inside (first r) here;
+          least = λ q walk. first-least r (room .rising) q (walk-keeps (Has r) (room .closed) walk here);
+          many = record { squares = r; more = more; apart = rise-apart r (room .rising); reached = all-by-has (Walk b (first r)) r (λ q g. room .linked (first r) q here g) };
+        }

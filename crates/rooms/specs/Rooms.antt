@@ -1,5 +1,6 @@
 -- The rooms of a board, in the words of the rules, and rooms that are too large.
 use mathlib.Core.Path.{_≡_}
+use mathlib.Core.Logic.{_↔_}
 use mathlib.Core.Bool.{true}
 use mathlib.Core.List.{List}
 use Prim.Native.Nat.{ℕ, _≤_, _<_}
@@ -39,6 +40,8 @@ pub record Larger (n : ℕ) (b : Grid) (p : ℕ) : Type 0 where
   pub least : (q : ℕ) → Walk b p q → p ≤ q
   pub many : Many n b p
 
--- where no room has more than n squares, from no square are more than n reached
+-- in the list of rooms that is a room of more than n squares whose first square is p, and each such room is one
 unfoldable pub Larger-law : Type 0
-Larger-law = (n : ℕ) (b : Grid) (rs : List (List ℕ)) → 1 ≤ n → Rooms b rs → All (λ r. length r ≤ n) rs → (p : ℕ) → Larger n b p → ⊥
+Larger-law =
+    (n : ℕ) (b : Grid) (rs : List (List ℕ)) → 1 ≤ n → Rooms b rs → (p : ℕ) →
+    Larger n b p ↔ ((r : List ℕ) × Has rs r × (n < length r) × (first r ≡ p))

@@ -57,3 +57,15 @@ Judged b (Ok x) = Small-rooms b (roomsOf x) × (length (roomsOf x) ≤ 32)
 Judged b (Err e) =
     ((p : ℕ) × (e ≡ refusal.Room p) × First-larger b p)
     ⊎ ((rs : List (List ℕ)) × Small-rooms b rs × (32 < length rs) × (e ≡ refusal.Rooms (first (getD rs 32 []))))
+
+-- an answer, with its rooms as lists of squares
+abbrev pub told : Result AllRooms Refusal → Result (List (List ℕ)) Refusal
+told (Ok x) = Ok (roomsOf x)
+told (Err e) = Err e
+
+-- one answer fits a board
+unfoldable pub One-found : Type 0
+One-found = (b : Grid) (x y : Result AllRooms Refusal) → Found b x → Found b y → told x ≡ told y
+
+unfoldable pub One-judged : Type 0
+One-judged = (b : Grid) (x y : Result AllRooms Refusal) → Judged b x → Judged b y → told x ≡ told y

@@ -3,4 +3,6 @@ pub mod find;
 pub mod list;
 pub mod read;
 pub mod room;
+#[cfg(test)]
+mod tests;
 pub mod theory;

@@ -1,8 +1,6 @@
-use mathlib.Core.Path.{sym, ap, _∙_}
-use lib.ListN.{length}
-use Rattle.std.proofs.shelf.Lists.{length-map}
-use Rattle.rooms.specs.Values.{squaresOf}
+use Rattle.rooms.specs.Values.{roomsOf}
+use Rattle.rooms.proofs.Finding.{slice-long}
 use Rattle.rooms.proofs.list.Rooms.len.Needs as need
 
 pub returns : need.returns
-returns c = sym (length-map (c .as-slice .result .now) squaresOf) ∙ ap length (c .as-slice .ensures)
+returns c = slice-long (c .as-slice .result .now) (roomsOf (c .args .self .now)) (c .as-slice .ensures)
