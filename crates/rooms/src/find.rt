@@ -2,7 +2,6 @@
 ghost use mathlib.Core.Path.{_≡_};
 ghost use mathlib.Core.Bool.{true, false};
 ghost use Prim.Native.Nat.{_≤_};
-ghost use lib.ListN.{length, take, getD};
 ghost use Rattle.board.specs.Grid.{free};
 ghost use Rattle.board.specs.Values.{gridOf};
 ghost use Rattle.rooms.specs.Growth.{Visit, marked};
@@ -12,7 +11,13 @@ use crate::room::Room;
 use board::board::Board;
 use board::refusal::Refusal;
 use board::ways::WAYS;
-use board::ways::Way;
+
+// The squares that a room has at least and at most, and the rooms that a board has at most that is judged.
+const FEWEST: usize = 2;
+
+const LARGEST: usize = 16;
+
+const MOST: usize = 32;
 
 // The free neighbours of a square that were not seen before are marked and join the squares found; None where there is no place left.
 fn visit(
@@ -33,7 +38,7 @@ fn visit(
         if seen[q as usize] {
             continue;
         }
-        if n == 16 {
+        if n == LARGEST {
             return None;
         }
         seen[q as usize] = true;
@@ -85,7 +90,7 @@ pub fn all_rooms(board: &Board) -> Result<Rooms, Refusal>
         let Some(room) = walk(board, p, &mut seen) else {
             return Err(Refusal::Room(p));
         };
-        if room.squares().len() < 2 {
+        if room.squares().len() < FEWEST {
             continue;
         }
         rooms[len] = room;
@@ -102,7 +107,7 @@ pub fn judged_rooms(board: &Board) -> Result<Rooms, Refusal>
         Ok(rooms) => rooms,
         Err(e) => return Err(e),
     };
-    if let Some(room) = rooms.as_slice().get(32) {
+    if let Some(room) = rooms.as_slice().get(MOST) {
         return Err(Refusal::Rooms(room.first()));
     }
     Ok(rooms)

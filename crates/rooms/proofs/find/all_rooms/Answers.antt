@@ -38,24 +38,24 @@ returns-in-rest c = (
   found-larger (gridOf (c .args .board .now)) (c .loop-p .p) (c .loop-p .seen) _ (c .loop-p .inv .3) (sym (c .if-not-is-free .ensures tt)) (c .if-seen-p .left) (c .in-rest .ensures tt),
 )
 
-pub loop-p-again-then-squares-lt2 : need.loop-p-again-then-squares-lt2
+pub loop-p-again-then-squares-lt-FEWEST : need.loop-p-again-then-squares-lt-FEWEST
 unfolding Walked
-loop-p-again-then-squares-lt2 c =
+loop-p-again-then-squares-lt-FEWEST c =
     let inv = c .loop-p .inv in (
       c .walk .array-long,
       inv .1,
       inv .2,
       sofar-single (gridOf (c .args .board .now)) (c .loop-p .p) (c .loop-p .seen) _ (inv .3) (sym (c .if-not-is-free .ensures tt)) (c .if-seen-p .left) (c .walk .last .seen)
-          (squaresOf (c .in-Some .room)) (c .in-Some .ensures tt) (omega (arith, c .if-squares-lt2 .taken, ap length (c .squares .ensures))),
+          (squaresOf (c .in-Some .room)) (c .in-Some .ensures tt) (omega (arith, c .if-squares-lt-FEWEST .taken, ap length (c .squares .ensures))),
     )
 
 -- the rooms with the one that was found
-added : (c : need.Else-squares-lt2) →
+added : (c : need.Else-squares-lt-FEWEST) →
     Sofar (gridOf (c .args .board .now)) (c .loop-p .p + 1) (c .walk .last .seen) (map squaresOf (take (c .loop-p .len) (c .loop-p .rooms)) ++ squaresOf (c .in-Some .room) ∷ [])
 unfolding Walked
 added c =
     sofar-room (gridOf (c .args .board .now)) (c .loop-p .p) (c .loop-p .seen) _ (c .loop-p .inv .3) (sym (c .if-not-is-free .ensures tt)) (c .if-seen-p .left) (c .walk .last .seen)
-    (squaresOf (c .in-Some .room)) (c .in-Some .ensures tt) (omega (arith, c .if-squares-lt2 .left, ap length (c .squares .ensures))) (squares-few (c .in-Some .room))
+    (squaresOf (c .in-Some .room)) (c .in-Some .ensures tt) (omega (arith, c .if-squares-lt-FEWEST .left, ap length (c .squares .ensures))) (squares-few (c .in-Some .room))
 
 pub index-rooms-len : need.index-rooms-len
 index-rooms-len c =

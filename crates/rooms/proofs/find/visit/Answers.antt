@@ -34,9 +34,9 @@ loop-way-again-then-seen-q c =
           (c .in-Some .ensures tt) (c .if-seen-q .taken),
     )
 
-pub returns-then-n-eq16 : need.returns-then-n-eq16
+pub returns-then-n-eq-LARGEST : need.returns-then-n-eq-LARGEST
 unfolding Visit
-returns-then-n-eq16 c =
+returns-then-n-eq-LARGEST c =
     let inv = c .loop-way .inv in
     let long = length-take-le (c .loop-way .n) (c .loop-way .squares) (omega arith) in
     visited-full (gridOf (c .args .board .now)) (board-wide (c .args .board .now)) (c .args .from) (c .loop-way .way-index) Up (c .loop-way-test .taken) _ _ _ _ (inv .3) (c .in-Some .q)
