@@ -1,10 +1,11 @@
--- The games of two small boards, by the computed test of order.
+-- The games of two small boards, by the computed test of order, and plays on them.
 use mathlib.Core.Path.{_≡_, refl}
 use mathlib.Core.Bool.{true, false}
 use Rattle.games.specs.Game.{empty}
 use Rattle.games.specs.Order.{Computed}
 use Rattle.games.proofs.Test.{computed}
 use Rattle.board.specs.Moves.{may, laid}
+use Rattle.board.specs.Play.{anywhere, goes, Plays}
 use Rattle.board.specs.Tree.{listed, tree, two-by-two, three-by-three, Board-games}
 
 pub board-games : Board-games
@@ -16,3 +17,7 @@ board-games = record {
     computed (tree 4 two-by-two) (tree 9 three-by-three) .0 .0 refl,
   );
 }
+
+pub plays : Plays
+unfolding goes anywhere may laid
+plays = record { at-once = elim [ true ↦ refl | false ↦ refl ]; wanting = refl; without-answer = λ s b. refl }

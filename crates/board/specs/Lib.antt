@@ -2,6 +2,7 @@
 pub mod Grid
 pub mod Moves
 pub mod Covering
+pub mod Ways
 pub mod Rules
 pub mod Tree
 pub mod Play

@@ -1,13 +1,14 @@
 -- A whole play in which one side lays as it is told.
 use mathlib.Core.Path.{_≡_}
 use mathlib.Core.Logic.{_⊎_}
-use mathlib.Core.Bool.{Bool, false, _||_}
+use mathlib.Core.Bool.{Bool, true, false, _||_}
 use mathlib.Core.List.{List, [], _∷_}
 use Prim.Native.Nat.{ℕ, zero, suc}
 use lib.ListN.{length}
 use Rattle.board.specs.Grid.{Grid, Side, other, pick}
 use Rattle.board.specs.Moves.{may, laid}
 use Rattle.board.specs.Rules.{Answer, lay, lost, Says}
+use Rattle.board.specs.Tree.{two-by-two, three-by-three}
 
 -- what is heard of a judge: an answer, or that the board is refused
 pub data Told : Type 0 where
@@ -53,3 +54,9 @@ unfoldable pub Play-wins : Type 0
 Play-wins =
     (j : Judge) → Right j → (s : Side) (b : Grid) (p : ℕ) → j s b ≡ told (lay p) →
     (rs : List ℕ) → (goes j s rs b ≡ short → ⊥) → (goes j s rs b ≡ last s) ⊎ (goes j s rs b ≡ unjudged)
+
+-- how plays may end: on two by two whoever lays first makes the last move; on three by three a reply is wanting; a board is refused
+pub record Plays : Type 0 where
+  pub at-once : (s : Side) → goes (λ t b. told (lay 0)) s [] two-by-two ≡ last s
+  pub wanting : goes (λ t b. told (lay 1)) true [] three-by-three ≡ short
+  pub without-answer : (s : Side) (b : Grid) → goes (λ t c. refused) s [] b ≡ unjudged

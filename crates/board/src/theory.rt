@@ -1,11 +1,19 @@
 // What is proved of boards as games. Each function's contract is a theorem.
 ghost use Rattle.board.specs.Covering.{Moves-law};
-ghost use Rattle.board.specs.Play.{Play-wins};
+ghost use Rattle.board.specs.Play.{Play-wins, Plays};
 ghost use Rattle.board.specs.Tree.{Tree-law, Tree-fuel, Board-games};
+ghost use Rattle.board.specs.Ways.{Ways-law};
 
 // A lawful move covers its place and at least one square more, each a neighbour of one before it, and all of them free.
 pub fn moves_stand() -> u8
     ensures { λ _. ⌜ Moves-law ⌝ }
+{
+    0
+}
+
+// The neighbours of a square are those that lie one of the four ways from it.
+pub fn ways_stand() -> u8
+    ensures { λ _. ⌜ Ways-law ⌝ }
 {
     0
 }
@@ -25,9 +33,10 @@ pub fn play_stands() -> u8
     0
 }
 
-// The games of two small boards, compared.
+// The games of two small boards, compared, and plays on them.
 pub fn board_games_stand() -> u8
-    ensures { λ _. ⌜ Board-games ⌝ }
+    ensures games { λ _. ⌜ Board-games ⌝ }
+    ensures plays { λ _. ⌜ Plays ⌝ }
 {
     0
 }
