@@ -109,7 +109,11 @@ fn judge_case(rt: &LibcRuntime, case: Case, side: u8) -> io::Result<()> {
 // The answer for a file that is judged.
 fn judge_bytes(rt: &LibcRuntime, what: &str, bytes: &[u8]) -> io::Result<()> {
     match judge_file(bytes) {
-        Ok(said) => println!(rt, "{what}: {said}"),
+        Ok(judgement) => {
+            let count = judgement.rooms.len();
+            let said = judgement.said;
+            println!(rt, "{what}: rooms {count}, {said}")
+        }
         Err(refusal) => println!(rt, "{what}: {refusal}"),
     }
 }

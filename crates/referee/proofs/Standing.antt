@@ -8,7 +8,8 @@ use Rattle.board.specs.Grid.{Grid, Side}
 use Rattle.board.specs.Reading.{Read, refused, holds, read-record, places-in}
 use Rattle.board.specs.Values.{sideOf}
 use Rattle.board.specs.declared.refusal.Refusal.{Refusal}
-use Rattle.verdict.proofs.Answers.{same-side, same-told}
+use Rattle.verdict.proofs.Answers.{same-side, one-judgement}
+use Rattle.verdict.specs.Judging.{One-judgement}
 use Rattle.referee.specs.Following.{Played, stopped, ends, played, playedBy, Ended, After-play, After-read, Followed, One-following}
 use Rattle.referee.specs.declared.outcome.Outcome.{Outcome}
 use Rattle.referee.specs.declared.outcome.Outcome.the-variants.{LastMove, Open}
@@ -25,15 +26,17 @@ is-read bs ps s b x r h places e after =
     subst (λ y. After-read y (places-in bs) r) h (subst (λ y. After-play y r) (e ∙ ap (played 0 s b) places) after)
 
 same-standing : (s : Side) (b : Grid) (x y : Result Outcome Refusal) → Ended s b x → Ended s b y → x ≡ y
+unfolding One-judgement
 same-standing s b (Ok (LastMove t)) (Ok (LastMove u)) x y = ap (λ p. Ok (LastMove p)) (same-side t u (x .1 ∙ sym (y .1)))
 same-standing s b (Ok (LastMove t)) (Ok (Open v)) x y = absurd (y .0 (x .0))
 same-standing s b (Ok (LastMove t)) (Err e) x y = absurd (y .0 (x .0))
 same-standing s b (Ok (Open v)) (Ok (LastMove u)) x y = absurd (x .0 (y .0))
-same-standing s b (Ok (Open v)) (Ok (Open w)) x y = let c = same-told s b (Ok v) (Ok w) (x .1) (y .1) in cc
-same-standing s b (Ok (Open v)) (Err e) x y = let c = same-told s b (Ok v) (Err e) (x .1) (y .1) in cc
+same-standing s b (Ok (Open v)) (Ok (Open w)) x y =
+    let c = one-judgement s b (Ok (record { rooms = x .1 .0; said = v })) (Ok (record { rooms = y .1 .0; said = w })) (x .1 .1) (y .1 .1) in cc
+same-standing s b (Ok (Open v)) (Err e) x y = let c = one-judgement s b (Ok (record { rooms = x .1 .0; said = v })) (Err e) (x .1 .1) (y .1) in cc
 same-standing s b (Err d) (Ok (LastMove u)) x y = absurd (x .0 (y .0))
-same-standing s b (Err d) (Ok (Open w)) x y = let c = same-told s b (Err d) (Ok w) (x .1) (y .1) in cc
-same-standing s b (Err d) (Err e) x y = let c = same-told s b (Err d) (Err e) (x .1) (y .1) in cc
+same-standing s b (Err d) (Ok (Open w)) x y = let c = one-judgement s b (Err d) (Ok (record { rooms = y .1 .0; said = w })) (x .1) (y .1 .1) in cc
+same-standing s b (Err d) (Err e) x y = let c = one-judgement s b (Err d) (Err e) (x .1) (y .1) in cc
 
 after-play : (p : Played) (x y : Result Outcome Refusal) → After-play p x → After-play p y → x ≡ y
 after-play (stopped e) x y a b = a ∙ sym b

@@ -12,7 +12,8 @@ use Rattle.board.specs.Values.{sideOf, gridOf}
 use Rattle.board.specs.declared.read.Setup.{Setup}
 use Rattle.board.specs.declared.refusal.Refusal.{Refusal}
 use Rattle.board.specs.declared.refusal.Refusal.the-variants.{Plank}
-use Rattle.verdict.specs.Judging.{Told}
+use Rattle.rooms.specs.declared.list.Rooms.{Rooms}
+use Rattle.verdict.specs.Judging.{Judged}
 use Rattle.referee.specs.declared.outcome.Outcome.{Outcome}
 use Rattle.referee.specs.declared.outcome.Outcome.the-variants.{LastMove, Open}
 
@@ -34,8 +35,8 @@ playedBy (Err e) = stopped e
 -- how the game stands with s to move on b: the other side made the last move exactly if s may lay nowhere; else it is judged
 abbrev pub Ended : Side → Grid → Result Outcome Refusal → Type 0
 Ended s b (Ok (LastMove t)) = Stuck s b × (sideOf t ≡ other s)
-Ended s b (Ok (Open x)) = (Stuck s b → ⊥) × Told s b (Ok x)
-Ended s b (Err e) = (Stuck s b → ⊥) × Told s b (Err e)
+Ended s b (Ok (Open x)) = (Stuck s b → ⊥) × ((rs : Rooms) × Judged s b (Ok (record { rooms = rs; said = x })))
+Ended s b (Err e) = (Stuck s b → ⊥) × Judged s b (Err e)
 
 abbrev pub After-play : Played → Result Outcome Refusal → Type 0
 After-play (stopped e) r = r ≡ Err e

@@ -15,7 +15,6 @@ use board::read::read_record;
 use board::refusal::Refusal;
 use board::side::Side;
 use verdict::judge::judge;
-use verdict::verdict::Said;
 
 // How the game stands that this record holds, or the first refusal of the list that applies.
 pub fn follow(bytes: &[u8]) -> Result<Outcome, Refusal>
@@ -62,7 +61,7 @@ fn standing(board: &Board, side: Side) -> Result<Outcome, Refusal>
         return Ok(Outcome::LastMove(side.other()));
     }
     match judge(board, side) {
-        Ok(verdict) => Ok(Outcome::Open(Said { side, verdict })),
+        Ok(judgement) => Ok(Outcome::Open(judgement.said)),
         Err(e) => Err(e),
     }
 }

@@ -1,4 +1,4 @@
--- How a verdict is told.
+-- How a judgement is told.
 use mathlib.Core.List.{List, _∷_, [], _++_}
 use Prim.Native.Nat.{ℕ}
 use lib.Chars.{codes}
@@ -12,3 +12,10 @@ use Rattle.verdict.specs.declared.verdict.Verdict.the-variants.{WinsAt, Lost}
 abbrev pub verdictText : Player → Verdict → List ℕ
 verdictText s (WinsAt p) = (letterOf s ∷ []) ++ (codes " wins at " ++ decimal p)
 verdictText s Lost = (letterOf s ∷ []) ++ codes " lost"
+
+-- "rooms 2", "room 1 at 3"
+abbrev pub roomsText : ℕ → List ℕ
+roomsText n = codes "rooms " ++ decimal n
+
+abbrev pub roomText : ℕ → ℕ → List ℕ
+roomText i p = codes "room " ++ (decimal i ++ (codes " at " ++ decimal p))

@@ -1,6 +1,6 @@
-// A verdict, and the line that tells it.
+// A verdict, and the lines that tell a judgement.
 ghost use Rattle.std.specs.declared.option.Option.the-variants.{Some};
-ghost use Rattle.verdict.specs.Lines.{verdictText};
+ghost use Rattle.verdict.specs.Lines.{verdictText, roomsText, roomText};
 use board::side::Side;
 use board::side::SideDisplay;
 use std::fmt;
@@ -29,5 +29,37 @@ pub impl fmt::Display for Said as SaidDisplay {
             Verdict::WinsAt(place) => write!(f, "{side} wins at {place}"),
             Verdict::Lost => write!(f, "{side} lost"),
         }
+    }
+}
+
+// How many rooms a board has.
+#[derive(Clone, Copy)]
+pub struct RoomCount(pub usize);
+
+// "rooms 2"
+pub impl fmt::Display for RoomCount as RoomCountDisplay {
+    ghost shown = { λ x. Some (roomsText (x .0)) };
+
+    fn fmt<W: fmt::Write>(&self, f: &mut fmt::Formatter<W>) -> fmt::Result {
+        let count = self.0;
+        write!(f, "rooms {count}")
+    }
+}
+
+// A room by its number and its first square.
+#[derive(Clone, Copy)]
+pub struct RoomPlace {
+    pub number: usize,
+    pub first: u16,
+}
+
+// "room 1 at 3"
+pub impl fmt::Display for RoomPlace as RoomPlaceDisplay {
+    ghost shown = { λ x. Some (roomText (x .number) (x .first)) };
+
+    fn fmt<W: fmt::Write>(&self, f: &mut fmt::Formatter<W>) -> fmt::Result {
+        let number = self.number;
+        let first = self.first;
+        write!(f, "room {number} at {first}")
     }
 }
