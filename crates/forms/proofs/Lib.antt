@@ -1,0 +1,5 @@
+-- Lemmas.
+pub mod Places
+pub mod Risings
+pub mod Meanings
+pub mod Numbers

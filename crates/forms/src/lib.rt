@@ -1,0 +1,2 @@
+// Values of games as numbered forms in lent memory: their rows, the test of order, look-up and growth.
+pub mod rows;
