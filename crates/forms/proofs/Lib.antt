@@ -3,3 +3,4 @@ pub mod Places
 pub mod Risings
 pub mod Meanings
 pub mod Numbers
+pub mod Compared
