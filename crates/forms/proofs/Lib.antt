@@ -4,3 +4,4 @@ pub mod Risings
 pub mod Meanings
 pub mod Numbers
 pub mod Compared
+pub mod Chains

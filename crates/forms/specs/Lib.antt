@@ -3,4 +3,5 @@ pub mod Rows
 pub mod Meaning
 pub mod Soundness
 pub mod Links
+pub mod Growth
 pub mod Laws

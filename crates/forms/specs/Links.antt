@@ -1,30 +1,27 @@
--- A table in lent memory: sound rows, and the links by which a row is looked up.
+-- A table in lent memory: sound rows in use, and the links by which a row is looked up.
 use mathlib.Core.Path.{_≡_}
 use mathlib.Core.Bool.{true, false}
 use mathlib.Core.List.{List, [], _∷_}
 use Prim.Native.Nat.{ℕ, suc, _+_, _*_, _%_, _≤_, _<_}
 use lib.ListN.{length, getD, take}
-use Rattle.std.specs.declared.option.Option.{Option}
-use Rattle.std.specs.declared.option.Option.the-variants.{Some, None}
-use Rattle.games.specs.Game.{Side}
 use Rattle.forms.specs.declared.rows.Form.{Form}
 use Rattle.forms.specs.Rows.{blank, rowOf}
-use Rattle.forms.specs.Meaning.{meaning}
 use Rattle.forms.specs.Soundness.{Sound}
 
--- a row is mixed into a number, entry by entry
+-- a row mixed into a number, entry by entry
 abbrev pub mixed : ℕ → List ℕ → ℕ
 mixed h [] = h
 mixed h (x ∷ xs) = mixed ((h * 40503 + x + 1) % 65521) xs
 
--- the bucket of two rows among so many
+-- the bucket of two rows, of so many buckets
 unfoldable pub bucketOf : ℕ → List ℕ → List ℕ → ℕ
-bucketOf size us ls = mixed (mixed (length us) us) ls % size
+bucketOf size us ls = mixed (mixed (length us % 65521) us) ls % size
 
--- the link from a bucket to its last form, and from a form to the one before it: 0, or one more than a form's number
+-- the link from a bucket to its last form: 0, or one more than a form's number
 abbrev pub headAt : List Form → ℕ → ℕ
 headAt fs b = getD fs b blank .head
 
+-- the link from a form to the one before it in its bucket
 abbrev pub nextAt : List Form → ℕ → ℕ
 nextAt fs k = getD fs k blank .next
 
@@ -42,18 +39,4 @@ pub record Table (fs : List Form) (os : List ℕ) (n : ℕ) : Type 0 where
   pub sound : Sound (take n fs) os
   pub heads : (b : ℕ) → b < length fs → headAt fs b ≤ n
   pub falls : (k : ℕ) → k < n → nextAt fs k ≤ k
-  pub linked : (k : ℕ) → k < n → Leads fs k (headAt fs (bucketOf (length fs) (rowOf fs os true k) (rowOf fs os false k)))
-
--- form k has these two rows
-abbrev pub Is-row : List Form → List ℕ → List ℕ → List ℕ → ℕ → Type 0
-Is-row fs os us ls k = (rowOf fs os true k ≡ us) × (rowOf fs os false k ≡ ls)
-
--- what a look-up answers: the form in use that has these rows, or that none has them
-abbrev pub Found : List Form → List ℕ → ℕ → List ℕ → List ℕ → Option ℕ → Type 0
-Found fs os n us ls (Some k) = (k < n) × Is-row fs os us ls k
-Found fs os n us ls None = (k : ℕ) → k < n → Is-row fs os us ls k → ⊥
-
--- what stays of a table that has grown from n forms: their rows and their games
-pub record Kept (fs : List Form) (os : List ℕ) (n : ℕ) (gs : List Form) (ps : List ℕ) : Type 0 where
-  pub rows : (s : Side) (k : ℕ) → k < n → rowOf gs ps s k ≡ rowOf fs os s k
-  pub games : (k : ℕ) → k < n → meaning gs ps k ≡ meaning fs os k
+  pub linked : (k : ℕ) → k < n → Leads fs k (headAt fs (bucketOf (length fs) (rowOf (take n fs) os true k) (rowOf (take n fs) os false k)))

@@ -29,3 +29,8 @@ rowOf fs os s k = take (many s (getD fs k blank)) (drop (place s k) os)
 abbrev pub Rising : List ℕ → Type 0
 Rising [] = Unit {0}
 Rising (x ∷ xs) = All (λ y. x < y) xs × Rising xs
+
+-- of two rows that of a side
+abbrev pub ofSide : Side → List ℕ → List ℕ → List ℕ
+ofSide true us ls = us
+ofSide false us ls = ls
