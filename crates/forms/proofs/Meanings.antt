@@ -35,9 +35,9 @@ from-listed f (x ∷ xs) y (there i) = let r = from-listed f xs y i in (r .0, ha
 
 -- two tables with the same rows below n
 module _
-  (fs : List Form) (os : List ℕ) (gs : List Form) (ps : List ℕ) (n : ℕ)
-  (below : (s : Side) (k : ℕ) → k < n → All (λ x. x < k) (rowOf fs os s k))
-  (same : (s : Side) (k : ℕ) → k < n → rowOf gs ps s k ≡ rowOf fs os s k) where
+    (fs : List Form) (os : List ℕ) (gs : List Form) (ps : List ℕ) (n : ℕ)
+    (below : (s : Side) (k : ℕ) → k < n → All (λ x. x < k) (rowOf fs os s k))
+    (same : (s : Side) (k : ℕ) → k < n → rowOf gs ps s k ≡ rowOf fs os s k) where
   pub meant-same : (m l k : ℕ) → k < n → k < m → k < l → meant m fs os k ≡ meant l gs ps k
   meant-same zero l k h p q = absurd (omega arith)
   meant-same (suc m) zero k h p q = absurd (omega arith)

@@ -1,7 +1,8 @@
 -- What a look-up answers, and what a table is after it has grown. All speak of the rows in use.
 use mathlib.Core.Path.{_≡_}
 use mathlib.Core.List.{List}
-use Prim.Native.Nat.{ℕ, _≤_, _<_}
+use mathlib.Core.Logic.{_⊎_}
+use Prim.Native.Nat.{ℕ, _*_, _≤_, _<_}
 use lib.ListN.{length}
 use Rattle.std.specs.declared.option.Option.{Option}
 use Rattle.std.specs.declared.option.Option.the-variants.{Some, None}
@@ -11,6 +12,7 @@ use Rattle.forms.specs.declared.rows.Form.{Form}
 use Rattle.forms.specs.Rows.{rowOf, ofSide, Rising}
 use Rattle.forms.specs.Meaning.{meaning, given}
 use Rattle.forms.specs.Soundness.{Known}
+use Rattle.forms.specs.Links.{Table}
 
 -- form k has these two rows
 abbrev pub Is-row : List Form → List ℕ → List ℕ → List ℕ → ℕ → Type 0
@@ -38,3 +40,8 @@ pub record Kept (fs : List Form) (os : List ℕ) (gs : List Form) (ps : List ℕ
   pub longer : length fs ≤ length gs
   pub rows : (s : Side) (k : ℕ) → k < length fs → rowOf gs ps s k ≡ rowOf fs os s k
   pub games : (k : ℕ) → k < length fs → meaning gs ps k ≡ meaning fs os k
+
+-- what beginning a table answers: a table of one form; or none exactly if there is no form, there are too many, or too few options for them, and nothing is changed
+abbrev pub Started : List Form → List ℕ → List Form → Option ℕ → Type 0
+Started fs os gs (Some n) = (n ≡ 1) × Table gs os 1
+Started fs os gs None = (gs ≡ fs) × ((length fs ≡ 0) ⊎ ((16384 < length fs) ⊎ (length os < 32 * length fs)))

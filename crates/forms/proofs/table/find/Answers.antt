@@ -15,7 +15,7 @@ loop-link-again c =
     let low : c .loop-link .link - 1 < c .args .used = omega (arith, c .loop-link .inv .0) in (
       omega (arith, c .pre .table .falls (c .loop-link .link - 1) low),
       past (c .args .forms .now) (c .args .options .now) (c .args .used) (c .pre .table) (c .args .upright .now) (c .args .flat .now) (c .loop-link .link) (c .loop-link .inv .1)
-      (λ is. both-ways (c .is-row .result) (c .if-is-row .left) (c .is-row .ensures .1 is)),
+          (λ is. both-ways (c .is-row .result) (c .if-is-row .left) (c .is-row .ensures .1 is)),
     )
 
 pub returns : need.returns
