@@ -19,6 +19,21 @@ use Rattle.forms.specs.Soundness.{Sound}
 use Rattle.forms.specs.Growth.{Is-row, Fresh, Kept}
 use Rattle.forms.proofs.Meanings.{listed-same, meant-same, meaning-same}
 
+-- a table keeps its own forms, and what is kept twice is kept
+pub kept-refl : (fs : List Form) (os : List ℕ) → Kept fs os fs os
+kept-refl fs os = record { longer = omega arith; rows = λ s k h. refl; games = λ k h. refl }
+
+pub kept-trans :
+    (fs : List Form) (os : List ℕ) (gs : List Form) (ps : List ℕ) (hs : List Form) (qs : List ℕ) → Kept fs os gs ps → Kept gs ps hs qs → Kept fs os hs qs
+kept-trans fs os gs ps hs qs p q =
+    let a = p .longer in
+    let b = q .longer in
+    record {
+      longer = omega arith;
+      rows = λ s k h. q .rows s k (omega arith) ∙ p .rows s k h;
+      games = λ k h. q .games k (omega arith) ∙ p .games k h;
+    }
+
 module _
     (fs : List Form) (os : List ℕ) (gs : List Form) (ps us ls : List ℕ) (sound : Sound fs os) (fresh : Fresh fs os us ls) (long : length gs ≡ length fs + 1)
     (older : (s : Side) (k : ℕ) → k < length fs → rowOf gs ps s k ≡ rowOf fs os s k) (new : Is-row gs ps us ls (length fs)) where

@@ -9,3 +9,4 @@ pub mod Windows
 pub mod Growing
 pub mod Linking
 pub mod Starting
+pub mod Givens

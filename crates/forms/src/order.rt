@@ -38,14 +38,14 @@ pub fn not_at_most(forms: &[Form], options: &[u16], g: u16, h: u16) -> bool
     requires second { ⌜ h < length (now forms) ⌝ }
     ensures { λ r. ⌜ When r (Not-le (meaning (now (forms .entry)) (now (options .entry)) g) (meaning (now (forms .entry)) (now (options .entry)) h)) (Le (meaning (now (forms .entry)) (now (options .entry)) g) (meaning (now (forms .entry)) (now (options .entry)) h)) ⌝ }
 {
-    let uprights = row(forms, options, true, g);
-    for x in uprights {
+    let own = row(forms, options, true, g);
+    for x in own {
         if at_most(forms, options, h, *x) {
             return true;
         }
     }
-    let flats = row(forms, options, false, h);
-    for y in flats {
+    let replies = row(forms, options, false, h);
+    for y in replies {
         if at_most(forms, options, *y, g) {
             return true;
         }

@@ -18,7 +18,7 @@ abbrev pub Inv-at-most-loop-y : given.InvT-at-most-loop-y
 Inv-at-most-loop-y l = All (λ y. Not-le (meaning (l .forms) (l .options) y) (meaning (l .forms) (l .options) (l .g))) (take (l .y-index) (l .flats))
 
 abbrev pub Inv-not-at-most-loop-x : given.InvT-not-at-most-loop-x
-Inv-not-at-most-loop-x l = All (λ x. Not-le (meaning (l .forms) (l .options) (l .h)) (meaning (l .forms) (l .options) x)) (take (l .x-index) (l .uprights))
+Inv-not-at-most-loop-x l = All (λ x. Not-le (meaning (l .forms) (l .options) (l .h)) (meaning (l .forms) (l .options) x)) (take (l .x-index) (l .own))
 
 abbrev pub Inv-not-at-most-loop-y : given.InvT-not-at-most-loop-y
-Inv-not-at-most-loop-y l = All (λ y. Not-le (meaning (l .forms) (l .options) y) (meaning (l .forms) (l .options) (l .g))) (take (l .y-index) (l .flats))
+Inv-not-at-most-loop-y l = All (λ y. Not-le (meaning (l .forms) (l .options) y) (meaning (l .forms) (l .options) (l .g))) (take (l .y-index) (l .replies))
