@@ -48,7 +48,7 @@ impl Board {
     }
 
     // The squares that a move covers, or None where it would leave the board or its row.
-    fn covers(&self, side: Side, place: u16) -> Option<[u16; 2]>
+    pub fn covers(&self, side: Side, place: u16) -> Option<[u16; 2]>
         ensures { λ r. ⌜ Covered (gridOf (now (self .entry))) (sideOf side) place r ⌝ }
     {
         let size = self.size();

@@ -26,7 +26,7 @@ has-among (p ∷ ps) q h =
     ⊎-elim (λ e. or-left (eqb p q) (among ps q) (eq-eqb p q e)) (λ g. or-right (eqb p q) (among ps q) (has-among ps q g)) (has-cases p ps q h)
 
 -- the squares that stay free
-length-seen : (k : ℕ) (qs : List ℕ) (cs : List Bool) → length (seen-from k qs cs) ≡ length cs
+pub length-seen : (k : ℕ) (qs : List ℕ) (cs : List Bool) → length (seen-from k qs cs) ≡ length cs
 unfolding seen-from
 length-seen k qs [] = refl
 length-seen k qs (c ∷ cs) = ap suc (length-seen (suc k) qs cs)
@@ -74,7 +74,7 @@ at-set cs p i =
     gone =
         ⊎-elim (λ h. getD-set-same cs p false false h) (λ h. ap (λ l. getD l p false) (set-past cs p false h) ∙ getD-past cs p false h) (cases-lt p (length cs))
 
-at-taken : (cs : List Bool) (ps : List ℕ) (i : ℕ) → getD (taken cs ps) i false ≡ (getD cs i false && not (among ps i))
+pub at-taken : (cs : List Bool) (ps : List ℕ) (i : ℕ) → getD (taken cs ps) i false ≡ (getD cs i false && not (among ps i))
 at-taken cs [] i = sym (all (getD cs i false))
   where
     all : (x : Bool) → (x && true) ≡ x
@@ -89,7 +89,7 @@ at-taken cs (p ∷ ps) i =
     join false y z = refl
 
 -- boards of one width with the same free squares are the same
-same-grid : (w : ℕ) (cs ds : List Bool) → length cs ≡ length ds → ((i : ℕ) → getD cs i false ≡ getD ds i false) →
+pub same-grid : (w : ℕ) (cs ds : List Bool) → length cs ≡ length ds → ((i : ℕ) → getD cs i false ≡ getD ds i false) →
     _≡_ {A = Grid} (record { width = w; cells = cs }) (record { width = w; cells = ds })
 same-grid w cs ds long each = ap (λ l. record { width = w; cells = l }) (ext-getD false cs ds long (λ i h. each i))
 
