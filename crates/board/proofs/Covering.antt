@@ -1,18 +1,18 @@
 -- What a move covers. Only this file and the contract of the function that gives the squares look at a move's shape.
 use mathlib.Core.Path.{_≡_, refl, sym, ap, _∙_}
-use mathlib.Core.Logic.{_⊎_, inl, inr}
-use mathlib.Core.Bool.{Bool, true, false, _&&_}
+use mathlib.Core.Logic.{inl, inr}
+use mathlib.Core.Bool.{true, false}
 use mathlib.Core.List.{List, [], _∷_}
 use Prim.Native.Nat.{ℕ, _+_, _%_, _<_}
 use native.Mathlib.Omega.{arith}
 use lib.Dec.{ltb}
 use lib.ListN.{length}
-use Rattle.std.specs.shelf.Lists.{All, Has}
+use Rattle.std.specs.shelf.Lists.{All}
 use Rattle.std.proofs.shelf.Elements.{all-has}
 use Rattle.std.proofs.shelf.Tests.{and-parts, ltb-true}
 use Rattle.board.specs.Grid.{Grid, Side, free, Edge, Next}
 use Rattle.board.specs.Moves.{covers, fits, all-free, may}
-use Rattle.board.specs.Covering.{Linked, done, next, Covering, Moves-law}
+use Rattle.board.specs.Covering.{Linked, done, next, Moves-law}
 
 -- a move covers its place first, and at least one square more
 pub covers-from : (w n : ℕ) (s : Side) (p : ℕ) → (q : ℕ) × (qs : List ℕ) × (covers w n s p ≡ p ∷ q ∷ qs)

@@ -1,11 +1,10 @@
 -- Neighbours, and the ways to them; and how large a board is.
 use mathlib.Core.Path.{_≡_, refl, sym, ap, subst, _∙_}
-use mathlib.Core.Logic.{_⊎_, _↔_, inl, inr, ⊎-elim}
-use mathlib.Core.Bool.{Bool, true, false}
-use mathlib.Core.List.{List, [], _∷_}
+use mathlib.Core.Logic.{_⊎_, inl, inr, ⊎-elim}
+use mathlib.Core.Bool.{true, false}
 use Prim.Native.Nat.{ℕ, _+_, _-_, _*_, _%_, _≤_, _<_}
 use native.Mathlib.Omega.{arith}
-use lib.ListN.{length, take}
+use lib.ListN.{length}
 use Rattle.std.proofs.shelf.Lists.{getD-past, length-take}
 use Rattle.std.proofs.shelf.Tests.{both-ways, cases-lt}
 use Rattle.board.specs.Grid.{Grid, free, Edge, Next}
@@ -32,6 +31,11 @@ board-few b = omega (arith, length-take (b .width * b .height) (b .free), b .few
 pub next-sym : (b : Grid) (p q : ℕ) → Next b p q → Next b q p
 next-sym b p q (inl e) = inr e
 next-sym b p q (inr e) = inl e
+
+pub next-apart : (b : Grid) (p q : ℕ) → Next b p q → p ≡ q → ⊥
+unfolding Edge
+next-apart b p q (inl e) same = e .1 same
+next-apart b p q (inr e) same = e .1 (sym same)
 
 pub ways-law : Ways-law
 unfolding Ways-law Edge Toward

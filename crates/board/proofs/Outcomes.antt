@@ -11,7 +11,7 @@ use lib.ListN.{length, getD, set}
 use Rattle.std.proofs.shelf.Lists.{getD-past}
 use Rattle.std.proofs.shelf.Tests.{and-parts, and-from, or-parts, or-cases, cases-bool, cases-lt, not-true, not-false, not-from-false, both-ways, cases-order}
 use Rattle.board.specs.Grid.{Grid, Side, other, pick, free, count-free}
-use Rattle.board.specs.Moves.{covers, fits, all-free, taken, may, laid}
+use Rattle.board.specs.Moves.{fits, all-free, taken, may, laid}
 use Rattle.board.specs.Rules.{Wins, by, Loses, whatever, Answer, lay, lost, Good, Says, One-answer, One-outcome}
 use Rattle.board.proofs.Covering.{covers-from}
 

@@ -1,14 +1,13 @@
 -- Who lays as a right judge tells, from a board that it wins, makes the last move.
-use mathlib.Core.Path.{_≡_, refl, sym, ap, subst, _∙_}
-use mathlib.Core.Logic.{_⊎_, inl, inr, ⊎-elim}
-use mathlib.Core.Bool.{Bool, true, false, not}
+use mathlib.Core.Path.{_≡_, refl, sym, subst}
+use mathlib.Core.Logic.{_⊎_, inl, inr}
+use mathlib.Core.Bool.{Bool, true, false}
 use mathlib.Core.List.{List, [], _∷_}
 use Prim.Native.Nat.{ℕ}
 use lib.ListN.{length}
-use Rattle.std.proofs.shelf.Tests.{cases-bool}
 use Rattle.board.specs.Grid.{Grid, Side, other, pick}
 use Rattle.board.specs.Moves.{may, laid}
-use Rattle.board.specs.Rules.{Wins, by, Loses, whatever, Answer, lay, lost, Says}
+use Rattle.board.specs.Rules.{Wins, by, Loses, whatever, lay, lost, Says}
 use Rattle.board.specs.Play.{Told, told, refused, Judge, Right, anywhere, End, last, unjudged, short, closing, heard, goes, Play-wins}
 use Rattle.board.proofs.Outcomes.{won-not-lost}
 

@@ -1,5 +1,5 @@
 -- The games of two small boards, by the computed test of order, and plays on them.
-use mathlib.Core.Path.{_≡_, refl}
+use mathlib.Core.Path.{refl}
 use mathlib.Core.Bool.{true, false}
 use Rattle.games.specs.Game.{empty}
 use Rattle.games.specs.Order.{Computed}

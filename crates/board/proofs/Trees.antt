@@ -1,22 +1,20 @@
 -- The game of a board: its options, and who wins it.
 use mathlib.Core.Path.{_≡_, refl, sym, ap, subst, _∙_}
-use mathlib.Core.Logic.{_⊎_, inl, inr, ⊎-elim}
+use mathlib.Core.Logic.{inl, inr, ⊎-elim}
 use mathlib.Core.Bool.{Bool, true, false}
-use mathlib.Core.List.{List, [], _∷_}
+use mathlib.Core.List.{[], _∷_}
 use Prim.Native.Nat.{ℕ, zero, suc, _≤_, _<_}
 use native.Mathlib.Omega.{arith}
 use lib.ListN.{length}
 use Rattle.std.proofs.shelf.Tests.{both-ways, cases-bool, cases-order}
 use Rattle.games.specs.Game.{Game, game, Games, none, more, options, In, here, there, empty}
-use Rattle.games.specs.Play.{Moved, this, First, with, Second, any}
-use Rattle.games.specs.Order.{Computed}
+use Rattle.games.specs.Play.{this, First, with, Second, any}
 use Rattle.games.proofs.Lists.{of, in-of, of-of, in-more}
 use Rattle.games.proofs.Rows.{of-move, not-first-second}
-use Rattle.games.proofs.Test.{computed}
 use Rattle.board.specs.Grid.{Grid, Side, other, pick, count-free}
 use Rattle.board.specs.Moves.{may, laid}
 use Rattle.board.specs.Rules.{Wins, by, Loses, whatever, One-outcome}
-use Rattle.board.specs.Tree.{listed, tree, Tree-law, Tree-fuel, Board-games}
+use Rattle.board.specs.Tree.{listed, tree, Tree-law, Tree-fuel}
 use Rattle.board.proofs.Outcomes.{may-below, laid-fewer, one-outcome}
 
 -- one place more is listed, or not

@@ -1,5 +1,5 @@
 -- One answer fits a board.
-use mathlib.Core.Path.{_≡_, refl, sym, ap, _∙_}
+use mathlib.Core.Path.{_≡_, sym, ap, _∙_}
 use mathlib.Core.Logic.{_⊎_, inl, inr, ⊎-elim}
 use mathlib.Core.List.{List, []}
 use Prim.Native.Nat.{ℕ, _≤_, _<_}
@@ -7,15 +7,13 @@ use native.Mathlib.Omega.{arith}
 use lib.ListN.{length, getD}
 use Rattle.std.proofs.shelf.Elements.{all-has}
 use Rattle.std.proofs.shelf.Tests.{cases-order}
-use Rattle.std.specs.declared.result.Result.{Result}
 use Rattle.std.specs.declared.result.Result.the-variants.{Ok, Err}
 use Rattle.board.specs.Grid.{Grid}
 use Rattle.board.specs.declared.refusal.Refusal.{Refusal}
 use Rattle.board.specs.declared.refusal.Refusal.the-variants as refusal
 use Rattle.rooms.specs.Walks.{first}
 use Rattle.rooms.specs.Rooms.{One-list, Larger-law}
-use Rattle.rooms.specs.Values.{roomsOf, Small-rooms, First-larger, Found, Judged, told, One-found, One-judged}
-use Rattle.rooms.specs.declared.list.Rooms.{Rooms as AllRooms}
+use Rattle.rooms.specs.Values.{roomsOf, Small-rooms, First-larger, Found, Judged, One-found, One-judged}
 use Rattle.rooms.proofs.Reach.{one-list, larger-law}
 
 -- what is told of a board without refusal, and with it

@@ -1,6 +1,6 @@
 -- The board and its rooms beside each other.
 use mathlib.Core.Path.{_≡_, refl, sym, ap, subst, _∙_}
-use mathlib.Core.Logic.{_⊎_, inl, inr, ⊎-elim}
+use mathlib.Core.Logic.{inl, inr, ⊎-elim}
 use mathlib.Core.Bool.{true}
 use mathlib.Core.List.{List, [], _∷_, map}
 use Prim.Native.Nat.{ℕ, zero, suc, _≤_, _<_}
@@ -12,15 +12,15 @@ use Rattle.std.proofs.shelf.Elements.{all-has, all-getD}
 use Rattle.games.specs.Game.{Game, options, In, empty}
 use Rattle.games.specs.Play.{Moved, this, that, First, with, Second, any}
 use Rattle.games.proofs.Rows.{of-move, not-first-second}
-use Rattle.board.specs.Grid.{Grid, Side, other, free, Next, count-free}
-use Rattle.board.specs.Moves.{without, may, laid}
+use Rattle.board.specs.Grid.{Grid, Side, other, Next, count-free}
+use Rattle.board.specs.Moves.{may, laid}
 use Rattle.board.specs.Rules.{Wins, by, Loses, whatever, One-outcome}
 use Rattle.board.specs.Tree.{tree}
-use Rattle.board.specs.Covering.{Covering, Linked, next, Moves-law}
+use Rattle.board.specs.Covering.{Linked, next, Moves-law}
 use Rattle.board.proofs.Covering.{moves-law, spread}
 use Rattle.board.proofs.Outcomes.{laid-fewer, one-outcome}
 use Rattle.board.proofs.Trees.{in-tree, of-tree}
-use Rattle.rooms.specs.Walks.{Rise, first}
+use Rattle.rooms.specs.Walks.{first}
 use Rattle.rooms.specs.Rooms.{Room, Rooms}
 use Rattle.rooms.specs.Games.{through, games-of, Rooms-law}
 use Rattle.rooms.proofs.Lists.{has-none, has-cases, rise-place}

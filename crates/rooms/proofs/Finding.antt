@@ -1,19 +1,19 @@
 -- The rooms found so far, square after square.
-use mathlib.Core.Path.{_≡_, refl, sym, ap, subst, _∙_}
-use mathlib.Core.Logic.{_⊎_, inl, inr, ⊎-elim}
+use mathlib.Core.Path.{_≡_, sym, ap, subst, _∙_}
+use mathlib.Core.Logic.{⊎-elim}
 use mathlib.Core.Bool.{Bool, true, false}
 use mathlib.Core.List.{List, [], _∷_, _++_, map}
-use Prim.Native.Nat.{ℕ, zero, suc, _+_, _≤_, _<_}
+use Prim.Native.Nat.{ℕ, _+_, _≤_, _<_}
 use native.Mathlib.Omega.{arith}
 use lib.ListN.{length, getD, set, take, replicate}
 use Rattle.std.specs.shelf.Lists.{All, Has}
 use Rattle.std.proofs.shelf.Lists.{getD-replicate, getD-past, length-push, length-replicate, length-map, length-take, length-take-le, take-more-set, map-push, getD-map}
 use Rattle.std.proofs.shelf.Elements.{all-has, all-push, all-weaker, has-append-left, has-push, has-getD}
 use Rattle.std.proofs.shelf.Tests.{both-ways, cases-lt, cases-order}
-use Rattle.board.specs.Grid.{Grid, pick, free, Edge, Next, count-free}
-use Rattle.board.proofs.Edges.{next-sym, free-below}
+use Rattle.board.specs.Grid.{Grid, pick, free, Next, count-free}
+use Rattle.board.proofs.Edges.{next-sym, next-apart, free-below}
 use Rattle.rooms.specs.Walks.{Walk, Rise, first}
-use Rattle.rooms.specs.Rooms.{Room, Rooms, Many, Larger}
+use Rattle.rooms.specs.Rooms.{Room, Rooms, Many}
 use Rattle.rooms.specs.Games.{Rooms-law}
 use Rattle.rooms.specs.Growth.{marked, Grown, Ended}
 use Rattle.rooms.specs.Values.{squaresOf, Small-rooms, First-larger}
@@ -58,11 +58,6 @@ few-marks (c ∷ cs) = let rest = few-marks cs in let one = at-most c in omega a
     at-most : (c : Bool) → pick c 1 0 ≤ 1
     at-most true = omega arith
     at-most false = omega arith
-
-next-apart : (b : Grid) (p q : ℕ) → Next b p q → p ≡ q → ⊥
-unfolding Edge
-next-apart b p q (inl e) same = e .1 same
-next-apart b p q (inr e) same = e .1 (sym same)
 
 module _ (b : Grid) (p : ℕ) (old : List Bool) (rs : List (List ℕ)) (x : Sofar b p old rs) where
   -- nothing is found at p

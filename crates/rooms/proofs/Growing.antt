@@ -1,6 +1,6 @@
 -- A walk goes on: a visit to a square's neighbours, way after way.
 use mathlib.Core.Path.{_≡_, refl, sym, ap, subst, _∙_}
-use mathlib.Core.Logic.{_⊎_, inl, inr, ⊎-elim}
+use mathlib.Core.Logic.{inl, inr, ⊎-elim}
 use mathlib.Core.Bool.{Bool, true, false}
 use mathlib.Core.List.{List, [], _∷_, _++_}
 use Prim.Native.Nat.{ℕ, zero, suc, _+_, _≤_, _<_}
@@ -8,7 +8,7 @@ use native.Mathlib.Omega.{arith}
 use lib.ListN.{length, getD, set, take}
 use Rattle.std.specs.shelf.Lists.{All, Has}
 use Rattle.std.specs.declared.option.Option.the-variants.{Some, None}
-use Rattle.std.proofs.shelf.Lists.{getD-set-same, getD-set-other, getD-append-left, length-push, length-take-le, take-more, take-more-set}
+use Rattle.std.proofs.shelf.Lists.{getD-set-same, getD-set-other, getD-append-left, length-push, take-more, take-more-set}
 use Rattle.std.proofs.shelf.Elements.{all-has, all-push, all-weaker, has-append-left, has-push, has-getD}
 use Rattle.std.proofs.shelf.Tests.{both-ways, cases-bool, cases-eq}
 use Rattle.board.specs.Grid.{Grid, pick, free, Next, count-free}
@@ -17,7 +17,7 @@ use Rattle.board.specs.Values.{gridOf}
 use Rattle.board.specs.declared.board.Board.{Board}
 use Rattle.board.specs.declared.ways.Way.{Way}
 use Rattle.board.proofs.Edges.{ways-law, one-there, free-below, board-few}
-use Rattle.rooms.specs.Walks.{Walk, stay, go, Apart}
+use Rattle.rooms.specs.Walks.{Walk, stay, go}
 use Rattle.rooms.specs.Rooms.{Many}
 use Rattle.rooms.specs.Growth.{marked, Grown, Visited, all-ways}
 use Rattle.rooms.proofs.Lists.{apart-push}

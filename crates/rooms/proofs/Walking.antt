@@ -1,13 +1,13 @@
 -- A walk: its squares are its own queue, and it ends when each was visited.
-use mathlib.Core.Path.{_≡_, refl, sym, ap, subst, _∙_}
-use mathlib.Core.Logic.{_⊎_, inl, inr, ⊎-elim}
+use mathlib.Core.Path.{_≡_, refl, sym, subst, _∙_}
+use mathlib.Core.Logic.{inl, inr, ⊎-elim}
 use mathlib.Core.Bool.{Bool, true, false, cond}
-use mathlib.Core.List.{List, [], _∷_, _++_}
-use Prim.Native.Nat.{ℕ, zero, suc, _+_, _≤_, _<_}
+use mathlib.Core.List.{List, [], _∷_}
+use Prim.Native.Nat.{ℕ, _+_, _≤_, _<_}
 use native.Mathlib.Omega.{arith}
 use lib.Dec.{eqb}
 use lib.ListN.{length, getD, set, take}
-use Rattle.std.specs.shelf.Lists.{All, Has}
+use Rattle.std.specs.shelf.Lists.{Has}
 use Rattle.std.specs.shelf.Sorted.{Rising, Shuffled}
 use Rattle.std.proofs.shelf.Lists.{getD-take, length-take-le}
 use Rattle.std.proofs.shelf.Elements.{all-has, has-getD}
@@ -18,8 +18,7 @@ use Rattle.board.specs.Ways.{Toward, Ways-law}
 use Rattle.board.specs.declared.ways.Way.{Way}
 use Rattle.board.specs.declared.ways.Way.the-variants.{Up, Left, Right, Down}
 use Rattle.board.proofs.Edges.{ways-law}
-use Rattle.rooms.specs.Walks.{Walk, Rise, Apart}
-use Rattle.rooms.specs.Rooms.{Many}
+use Rattle.rooms.specs.Walks.{Walk, Apart}
 use Rattle.rooms.specs.Growth.{marked, Grown, Visited, all-ways, Ended}
 use Rattle.rooms.proofs.Lists.{rise-sorted}
 

@@ -1,6 +1,6 @@
 use mathlib.Core.Path.{subst, _∙_}
 use native.Mathlib.Omega.{arith}
-use lib.ListN.{length, getD, take}
+use lib.ListN.{getD, take}
 use Rattle.std.proofs.shelf.Lists.{length-set, length-take-le, take-all}
 use Rattle.board.specs.Values.{gridOf}
 use Rattle.board.specs.declared.ways.Way.the-variants.{Up}

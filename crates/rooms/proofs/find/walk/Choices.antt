@@ -1,8 +1,4 @@
-use mathlib.Core.Path.{_≡_}
-use mathlib.Core.Bool.{Bool}
-use mathlib.Core.List.{List}
-use Prim.Native.Nat.{ℕ, _-_, _≤_, _<_}
-use lib.ListN.{length}
+use Prim.Native.Nat.{_-_}
 use Rattle.board.specs.Values.{gridOf}
 use Rattle.rooms.proofs.Walking.{Walking}
 use Rattle.rooms.proofs.find.walk.Given as given
