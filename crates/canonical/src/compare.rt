@@ -25,7 +25,7 @@ pub fn worse(forms: &[Form], options: &[u16], side: bool, g: u16, h: u16) -> boo
 }
 
 // Of two rows that of a side.
-pub fn of_side<'a>(side: bool, upright: &'a [u16], flat: &'a [u16]) -> &'a [u16]
+pub(crate) fn of_side<'a>(side: bool, upright: &'a [u16], flat: &'a [u16]) -> &'a [u16]
     ensures { λ r. ⌜ now r ≡ ofSide side (now (upright .entry)) (now (flat .entry)) ⌝ }
 {
     if side { upright } else { flat }

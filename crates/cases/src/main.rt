@@ -1,10 +1,13 @@
 // Boards and records with known answers, run through the library: what is printed is checked in.
 use board::refusal::RefusalDisplay;
+use forms_of::rooms_of_squares;
 use referee::follow::follow;
 use referee::outcome::OutcomeDisplay;
 use std::io;
 use verdict::judge::judge_file;
 use verdict::verdict::SaidDisplay;
+
+mod forms_of;
 
 // A board by its name, its width and height, and its squares, row after row.
 #[derive(Clone, Copy)]
@@ -140,8 +143,13 @@ fn refused(rt: &LibcRuntime) -> io::Result<()> {
     judge_bytes(rt, "a wrong square", b"\x02\x02u..x.")?;
     judge_bytes(
         rt,
-        "too many free squares",
+        "a room of 21 squares",
         b"\x03\x07u.....................",
+    )?;
+    judge_bytes(
+        rt,
+        "24 free squares in two rooms",
+        b"\x06\x05u............######............",
     )
 }
 
@@ -173,5 +181,6 @@ fn main(rt: LibcRuntime) -> io::Result<()> {
         judge_case(&rt, case, b'f')?;
     }
     refused(&rt)?;
-    records(&rt)
+    records(&rt)?;
+    rooms_of_squares(&rt)
 }

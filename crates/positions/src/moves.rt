@@ -11,9 +11,9 @@ ghost use Rattle.rooms.specs.Rooms.{Room as RoomOf};
 ghost use Rattle.rooms.specs.Values.{squaresOf};
 ghost use Rattle.positions.specs.Sets.{Move, Set-of};
 ghost use Rattle.positions.specs.Values.{roomSquares, GroundOf, setOf, CanOf, fullOf};
+use crate::room::RoomMoves;
 use board::board::Board;
 use board::side::Side;
-use crate::room::RoomMoves;
 use rooms::room::Room;
 
 // The number of a square in a room.
@@ -80,19 +80,24 @@ impl RoomMoves {
             upright[i] = move_at(board, squares, Side::Upright, i);
             flat[i] = move_at(board, squares, Side::Flat, i);
         }
-        RoomMoves { board: *board, room: *room, upright, flat }
+        RoomMoves {
+            board: *board,
+            room: *room,
+            upright,
+            flat,
+        }
     }
 
     // How many squares the room has.
     pub fn len(&self) -> usize
-        ensures { λ r. ⌜ r ≡ length (roomSquares (now (self .entry))) ⌝ }
+        ensures value { λ r. ⌜ r ≡ length (roomSquares (now (self .entry))) ⌝ }
+        ensures bound { λ r. ⌜ r ≤ 16 ⌝ }
     {
         self.room.squares().len()
     }
 
     // The set of all squares of the room.
     pub fn full(&self) -> u16
-        requires { ⌜ length (roomSquares (now self)) ≤ 16 ⌝ }
         ensures { λ r. ⌜ r ≡ fullOf (now (self .entry)) ⌝ }
     {
         ((1u32 << self.len()) - 1) as u16
@@ -100,7 +105,6 @@ impl RoomMoves {
 
     // What the move of a side at square number i leaves of a set, or None where there is no such move in it.
     pub fn after(&self, set: u16, side: Side, i: usize) -> Option<u16>
-        requires { ⌜ GroundOf (now self) ⌝ }
         ensures { λ r. ⌜ Cases r (CanOf (now (self .entry)) set (sideOf side) i → ⊥) (λ rest. CanOf (now (self .entry)) set (sideOf side) i × (rest ≡ set - setOf (now (self .entry)) (sideOf side) i)) ⌝ }
     {
         if i >= self.len() {
