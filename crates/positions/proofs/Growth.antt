@@ -13,22 +13,12 @@ use Rattle.forms.specs.Meaning.{meaning}
 use Rattle.forms.specs.Links.{Table}
 use Rattle.forms.specs.Growth.{Kept}
 use Rattle.forms.proofs.Chains.{use-length}
+use Rattle.forms.proofs.Growing.{kept-refl, kept-trans}
 use Rattle.positions.specs.Growing.{Grows, Overfull}
-
--- forms that are kept twice are kept
-pub kept-on : {fs : List Form} {os : List ℕ} {gs : List Form} {ps : List ℕ} {hs : List Form} {qs : List ℕ} → Kept fs os gs ps → Kept gs ps hs qs → Kept fs os hs qs
-kept-on {fs} {os} {gs} {ps} {hs} {qs} a b = record {
-  longer = let x = a .longer in let y = b .longer in omega arith;
-  rows = λ s k h. b .rows s k (let x = a .longer in omega arith) ∙ a .rows s k h;
-  games = λ k h. b .games k (let x = a .longer in omega arith) ∙ a .games k h;
-}
-
-pub kept-same : (fs : List Form) (os : List ℕ) → Kept fs os fs os
-kept-same fs os = record { longer = omega arith; rows = λ s k h. refl; games = λ k h. refl }
 
 module _ (B : Game → Type 0) where
   pub grows-none : (fs : List Form) (os : List ℕ) (n : ℕ) → Table fs os n → Grows B fs os n fs os n
-  grows-none fs os n t = record { table = t; long = refl; kept = kept-same (take n fs) os; new = λ k low high. absurd (omega arith) }
+  grows-none fs os n t = record { table = t; long = refl; kept = kept-refl (take n fs) os; new = λ k low high. absurd (omega arith) }
 
   -- how far it grew
   pub grows-far : (fs : List Form) (os : List ℕ) (n : ℕ) (gs : List Form) (ps : List ℕ) (u : ℕ) → Table fs os n → Grows B fs os n gs ps u → n ≤ u
@@ -45,7 +35,7 @@ module _ (B : Game → Type 0) where
   grows-on fs os n gs ps u hs qs v a b = record {
     table = b .table;
     long = b .long ∙ a .long;
-    kept = kept-on (a .kept) (b .kept);
+    kept = kept-trans (take n fs) os (take u gs) ps (take v hs) qs (a .kept) (b .kept);
     new = λ k low high.
         ⊎-elim
         (λ old. subst B (sym (grows-meaning gs ps u hs qs v (a .table) b k old)) (a .new k low old))

@@ -10,7 +10,7 @@ use lib.ListN.{length, getD, set, take, drop, replicate}
 use mathlib.Core.Logic.{⊎-elim}
 use borrow.Author.Count.{below-more}
 use Rattle.std.specs.Orderings.{When}
-use Rattle.std.proofs.shelf.Lists.{at-drop-more, at-drop-all, take-more, take-all, length-set, getD-set-same, getD-set-other, getD-replicate, getD-past, length-take}
+use Rattle.std.proofs.shelf.Lists.{at-drop-more, at-drop-all, take-more, take-all, length-set, getD-set-same, getD-set-other, getD-replicate, getD-past}
 use Rattle.std.proofs.shelf.Tests.{cases-bool, cases-eq, cases-lt, eqb-true, eq-eqb, ne-eqb, lt-ltb, ltb-true}
 use Rattle.std.specs.shelf.Lists.{Has}
 use Rattle.std.proofs.shelf.Elements.{has-getD}
@@ -21,8 +21,6 @@ use Rattle.positions.specs.Sets.{has, all-among, Holds, Set-of, covered, Move,
 use Rattle.board.specs.Grid.{Grid, Side}
 use Rattle.board.specs.Moves.{fits}
 use Rattle.rooms.specs.Rooms.{Room}
-use Rattle.rooms.specs.Values.{squaresOf}
-use Rattle.rooms.specs.declared.room.Room.{Room as OneRoom}
 use Rattle.positions.proofs.Bits.{has-zero, has-or, has-pow}
 use Rattle.positions.proofs.Choices.{one-number}
 
@@ -157,7 +155,3 @@ made-all b qs us ls k h few room made = record {
   small = made .small;
   each = λ s i low. made .each s i (omega arith);
 }
-
-pub squares-few : (r : OneRoom) → length (squaresOf r) ≤ 16
-unfolding squaresOf
-squares-few r = let few = r .few in simp length-take (omega arith)

@@ -1,7 +1,7 @@
 use mathlib.Core.Path.{ap}
 use native.Mathlib.Omega.{arith}
 use lib.ListN.{length}
-use Rattle.positions.proofs.Making.{squares-few}
+use Rattle.rooms.proofs.Finding.{squares-few}
 use Rattle.positions.proofs.room.RoomMoves.len.Needs as need
 
 pub returns : need.returns

@@ -5,7 +5,8 @@ use lib.ListN.{length}
 use Rattle.board.specs.Values.{gridOf}
 use Rattle.rooms.specs.Walks.{Rise}
 use Rattle.positions.specs.Sets.{Ground}
-use Rattle.positions.proofs.Making.{made-none, made-more, made-all, squares-few, Made-to}
+use Rattle.positions.proofs.Making.{made-none, made-more, made-all, Made-to}
+use Rattle.rooms.proofs.Finding.{squares-few}
 use Rattle.positions.proofs.room.RoomMoves.new.Needs as need
 
 pub loop-i-holds : need.loop-i-holds
