@@ -76,7 +76,7 @@ fn tell_rooms(rt: &LibcRuntime, what: &str, bytes: &[u8]) -> io::Result<()> {
 }
 
 // Rooms by their squares; the last board has a two by two room and a three by three room, which have one form.
-pub fn rooms_of_squares(rt: &LibcRuntime) -> io::Result<()> {
+pub(crate) fn rooms_of_squares(rt: &LibcRuntime) -> io::Result<()> {
     tell_rooms(rt, "two by two", b"\x02\x02u....")?;
     tell_rooms(rt, "two by three", b"\x02\x03u......")?;
     tell_rooms(rt, "two by four", b"\x02\x04u........")?;

@@ -148,11 +148,6 @@ not-formed r ground fs os n gs qs Full f = record {
 not-formed r ground fs os n gs qs Wide f = record { form = f .form; canonical = f .canonical; kind = kind-position r ground (f .form) (f .kind); wide = f .wide }
 not-formed r ground fs os n gs qs NoMemory f = tt
 
--- what is noted fits: a table has at most 16,384 forms
-pub noted-fits : (r : RoomMoves) (fs : List Form) (os : List ℕ) (u : ℕ) (ps : List ℕ) → MemoryOf r fs os u ps → u ≤ length fs → length fs ≤ 16384 → (k : ℕ) → getD ps k 0 ≤ 65536
-noted-fits r fs os u ps m within size k =
-    ⊎-elim (λ some. let low = m .known k (getD ps k 0 - 1) (omega arith) in omega arith) (λ none. omega arith) (cases-lt 0 (getD ps k 0))
-
 -- the part of the row that is for the sets of the room
 pub sets-long : (ps part : List ℕ) (f full : ℕ) → length part ≡ length (take (f + 1 - 0) (drop 0 ps)) → f ≡ full → full < length ps → full < length part
 sets-long ps part f full kept same enough = let long = length-take (f + 1 - 0) ps in omega arith

@@ -11,7 +11,7 @@ use Rattle.games.specs.Game.{Side, Game, options, In}
 use Rattle.games.specs.Order.{Equal}
 use Rattle.games.proofs.Sides.{equal-refl, equal-sym, equal-trans}
 use Rattle.std.proofs.shelf.Lists.{getD-set-same, getD-set-other}
-use Rattle.std.proofs.shelf.Tests.{cases-eq}
+use Rattle.std.proofs.shelf.Tests.{cases-eq, cases-lt}
 use Rattle.forms.specs.declared.rows.Form.{Form}
 use Rattle.forms.specs.Rows.{ofSide}
 use Rattle.forms.specs.Meaning.{meaning, given}
@@ -72,10 +72,6 @@ module _ (r : RoomMoves) where
         (row-on at s k gs qs u rs hs ws v ts row (sofar .0 .grows .table) (found .0) (sofar .1)) ins,
   )
 
-  -- what is noted is the number of a form in use
-  pub noted-low : (fs : List Form) (os : List ℕ) (n : ℕ) (ps : List ℕ) (at : ℕ) → MemoryOf r fs os n ps → 0 < getD ps at 0 → getD ps at 0 - 1 < n
-  noted-low fs os n ps at m h = m .known at (getD ps at 0 - 1) (omega arith)
-
   -- the two rows of a set
   module _ (at : ℕ) (fs : List Form) (os : List ℕ) (n : ℕ) (ps us ls : List ℕ) (table : Table fs os n) (memory : MemoryOf r fs os n ps)
       (up : RowOf r at true (length (roomSquares r)) fs os n ps us) (down : RowOf r at false (length (roomSquares r)) fs os n ps ls) where
@@ -126,3 +122,8 @@ module _ (r : RoomMoves) where
           }
       unplaced gs qs Wide f o wide = record { form = wide .0; canonical = wide .1; kind = (at, leads, equal-trans (equal-sym (wide .2)) (equal-sym the-game)); wide = wide .3 }
       unplaced gs qs NoMemory f o wide = tt
+
+-- what is noted fits: a table has at most 16,384 forms
+pub noted-fits : (r : RoomMoves) (fs : List Form) (os : List ℕ) (u : ℕ) (ps : List ℕ) → MemoryOf r fs os u ps → u ≤ length fs → length fs ≤ 16384 → (k : ℕ) → getD ps k 0 ≤ 65536
+noted-fits r fs os u ps m within size k =
+    ⊎-elim (λ some. let low = m .known k (getD ps k 0 - 1) (omega arith) in omega arith) (λ none. omega arith) (cases-lt 0 (getD ps k 0))

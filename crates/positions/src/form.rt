@@ -1,6 +1,8 @@
 // The forms of positions: that of a set is made of the forms of what the moves leave of it.
-ghost use Prim.Native.Nat.{_<_};
-ghost use lib.ListN.{length};
+ghost use mathlib.Core.Path.{_≡_};
+ghost use Prim.Native.Nat.{suc, _≤_, _<_};
+ghost use lib.ListN.{length, getD};
+ghost use Rattle.std.specs.Options.{Cases};
 ghost use Rattle.forms.specs.Links.{Table};
 ghost use Rattle.board.specs.Values.{sideOf};
 ghost use Rattle.positions.specs.Forming.{LeadsTo, MemoryOf, Formed, RowFormed};
@@ -38,12 +40,8 @@ pub fn form(
     requires reached { ⌜ LeadsTo (now room) set ⌝ }
     ensures { λ r. ⌜ Formed (now (room .entry)) set (now (forms .entry)) (now (options .entry)) used (now (positions .entry)) (now (forms .exit)) (now (options .exit)) (now (positions .exit)) r ⌝ }
 {
-    let noted = positions[set as usize];
-    if noted > 0 {
-        return Ok(Placed {
-            form: (noted - 1) as u16,
-            used,
-        });
+    if let Some(form) = recall(positions, set) {
+        return Ok(Placed { form, used });
     }
     let upright = match option_row(
         heap,
@@ -84,6 +82,19 @@ pub fn form(
     };
     positions[set as usize] = placed.form as u32 + 1;
     Ok(placed)
+}
+
+// The form that is noted of a set.
+fn recall(positions: &[u32], set: u16) -> Option<u16>
+    requires long { ⌜ set < length (now positions) ⌝ }
+    requires fits { ⌜ getD (now positions) set 0 ≤ 65536 ⌝ }
+    ensures { λ r. ⌜ Cases r (getD (now (positions .entry)) set 0 ≡ 0) (λ k. getD (now (positions .entry)) set 0 ≡ suc k) ⌝ }
+{
+    let noted = positions[set as usize];
+    if noted == 0 {
+        return None;
+    }
+    Some((noted - 1) as u16)
 }
 
 // The forms of what a side may make of the position at a set.

@@ -10,12 +10,15 @@ use Rattle.positions.specs.Values.{roomSquares, movesOf}
 use Rattle.positions.specs.Forming.{RowOf, LeadsTo}
 use Rattle.positions.proofs.Forming.{leads-one, leads-le}
 use Rattle.positions.proofs.Played.{fewer-ones}
-use Rattle.positions.proofs.Turns.{went-on, failed-on, row-on, row-one-more, noted-low, rows-known, placed, unplaced}
+use Rattle.positions.proofs.Turns.{went-on, failed-on, row-on, row-one-more, noted-fits, rows-known, placed, unplaced}
 use Rattle.positions.proofs.form.+form+option_row.Needs as need
 use Rattle.positions.proofs.form.+form+option_row.Needs.{form-After-as-slice-2}
 
-pub form-cast-result : need.form-cast-result
-form-cast-result t c = let low = noted-low (c .args .room .now) _ _ _ (c .args .positions .now) (c .args .set) (c .pre .memory) (c .if-noted-gt0 .taken) in omega arith
+pub form-recall-requires : need.form-recall-requires
+form-recall-requires t c κs = record {
+  long = let f = leads-le (length (roomSquares (c .args .room .now))) (movesOf (c .args .room .now)) (c .pre .reached) in let l = c .pre .long in omega arith;
+  fits = noted-fits (c .args .room .now) _ _ _ (c .args .positions .now) (c .pre .memory) (c .pre .table .within) (c .pre .table .size) (c .args .set);
+}
 
 pub form-returns-in-Err-option-row : need.form-returns-in-Err-option-row
 form-returns-in-Err-option-row t c = failed-on (c .args .room .now) _ _ _ _ _ _ _ _ _ _ (c .in-Ok .ensures tt .0) _ (c .in-Err-option-row .ensures tt)
@@ -90,10 +93,7 @@ option-row-loop-i-again t c =
     (c .loop-i .inv) (at .0) (at .1) (c .in-Ok .ensures tt) (c .in-Ok-insert .ensures tt)
 
 pub form-index-positions-set : need.form-index-positions-set
-form-index-positions-set t c = let f = leads-le (length (roomSquares (c .args .room .now))) (movesOf (c .args .room .now)) (c .pre .reached) in let l = c .pre .long in omega arith
-
-pub form-index-positions-set-2 : need.form-index-positions-set-2
-form-index-positions-set-2 t c =
+form-index-positions-set t c =
     let a = c .option-row .kept .positions in
     let b = c .option-row-2 .kept .positions in
     let f = leads-le (length (roomSquares (c .args .room .now))) (movesOf (c .args .room .now)) (c .pre .reached) in

@@ -4,7 +4,8 @@ use lib.ListN.{length, getD}
 use Rattle.std.specs.Of.Vec.{vec-items}
 use Rattle.positions.specs.Forming.{LeadsTo}
 use Rattle.positions.specs.Reach.{stay}
-use Rattle.positions.proofs.Law.{forgets, formed-room, not-formed, noted-fits, sets-long}
+use Rattle.positions.proofs.Law.{forgets, formed-room, not-formed, sets-long}
+use Rattle.positions.proofs.Turns.{noted-fits}
 use Rattle.positions.proofs.forms.room_forms.Needs as need
 
 pub form-requires : need.form-requires
