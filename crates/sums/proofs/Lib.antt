@@ -1,2 +1,5 @@
 -- Lemmas.
 pub mod Holding
+pub mod Widening
+pub mod Joining
+pub mod Adding
