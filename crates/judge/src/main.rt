@@ -15,10 +15,7 @@ fn tell(rt: &LibcRuntime, judgement: &Judgement) -> io::Result<()> {
     let rooms = judgement.rooms.as_slice();
     println!(rt, "{}", RoomCount(rooms.len()))?;
     for (number, room) in rooms.iter().enumerate() {
-        let place = RoomPlace {
-            number,
-            first: room.first(),
-        };
+        let place = RoomPlace { number, first: room.first() };
         println!(rt, "{place}")?;
     }
     let said = judgement.said;

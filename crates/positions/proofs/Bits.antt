@@ -97,7 +97,7 @@ part-from (suc n) s m small all =
     let p = pow-suc 2 n in
     let half = part-from n (s / 2) (m / 2) (omega arith) (λ i. all (suc i)) in
     let last : m % 2 ≤ s % 2 =
-    ⊎-elim (λ z. omega arith) (λ o. let t = eqb-true (s % 2) 1 (all 0 (eq-eqb (m % 2) 1 o)) in omega arith) (bit m) in
+        ⊎-elim (λ z. omega arith) (λ o. let t = eqb-true (s % 2) 1 (all 0 (eq-eqb (m % 2) 1 o)) in omega arith) (bit m) in
     let step = and-step s m in
     omega arith
 

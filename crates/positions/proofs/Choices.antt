@@ -37,13 +37,13 @@ unfolding has
 has-chosen [] set p h = absurd (has-none p h)
 has-chosen (q ∷ qs) set p h =
     let onward : Has (chosen qs (set / 2)) p → At (q ∷ qs) set p = λ later.
-    let r = has-chosen qs (set / 2) p later in
-    record { number = suc (r .number); low = omega (arith, r .low); is = r .is; member = r .member } in
+        let r = has-chosen qs (set / 2) p later in
+        record { number = suc (r .number); low = omega (arith, r .low); is = r .is; member = r .member } in
     ⊎-elim
     (λ e. ⊎-elim
-    (λ same. record { number = 0; low = omega arith; is = same; member = e })
-    onward
-    (has-cases q (chosen qs (set / 2)) p (subst (λ t. Has (pick t (q ∷ chosen qs (set / 2)) (chosen qs (set / 2))) p) e h)))
+      (λ same. record { number = 0; low = omega arith; is = same; member = e })
+      onward
+      (has-cases q (chosen qs (set / 2)) p (subst (λ t. Has (pick t (q ∷ chosen qs (set / 2)) (chosen qs (set / 2))) p) e h)))
     (λ e. onward (subst (λ t. Has (pick t (q ∷ chosen qs (set / 2)) (chosen qs (set / 2))) p) e h))
     (cases-bool (eqb (set % 2) 1))
 

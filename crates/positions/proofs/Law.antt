@@ -98,8 +98,7 @@ listed-none ps = record { rising = tt; from = λ w h. absurd (has-none h); all =
 
 pub listed-skip : (ps : List ℕ) (k : ℕ) (row : List ℕ) → getD ps k 0 ≡ 0 → Listed ps k row → Listed ps (k + 1) row
 listed-skip ps k row z l = record {
-  rising = l .rising;
-  from = l .from;
+  rising = l .rising; from = l .from;
   all = λ at w h e. ⊎-elim (λ low. l .all at w low e) (λ high. absurd (let same : at ≡ k = omega arith in let x = ap (λ i. getD ps i 0) same in omega arith)) (cases-lt at k);
 }
 
@@ -130,7 +129,8 @@ module _ (r : RoomMoves) (ground : GroundOf r) (fs : List Form) (os : List ℕ) 
         whole = λ c on.
             let at = position-leads r ground c on in
             let noted = noted-on (length (roomSquares r)) (movesOf r) (gameOf r) (fullOf r) gs qs u rs memory (at .1) (λ z. let x = found .1 in omega arith) in
-            let w = noted-form (length (roomSquares r)) (movesOf r) (gameOf r) (fullOf r) rs (at .0) noted in (
+            let w = noted-form (length (roomSquares r)) (movesOf r) (gameOf r) (fullOf r) rs (at .0) noted in
+            (
               w .0,
               l .all (at .0) (w .0) (⊎-elim (λ low. omega arith) (λ high. absurd (noted (getD-past rs (at .0) 0 high))) (cases-lt (at .0) (length rs))) (w .1),
               subst (λ x. Equal (meaning (take u gs) qs (w .0)) (tree (count-free (gridOf (r .board) .cells)) x)) (sym (at .2)) (memory .right (at .0) (w .0) (w .1)),
@@ -141,9 +141,7 @@ module _ (r : RoomMoves) (ground : GroundOf r) (fs : List Form) (os : List ℕ) 
 pub not-formed : (r : RoomMoves) → GroundOf r → (fs : List Form) (os : List ℕ) (n : ℕ) (gs : List Form) (qs : List ℕ) (e : Refusal) → Failed r fs os n gs qs e → Room-answer (gridOf (r .board)) (roomSquares r) fs os n gs qs (Err e)
 not-formed r ground fs os n gs qs Full f = record {
   grows = grows-as (KindOf r) (Position-of (gridOf (r .board)) (roomSquares r)) (kind-position r ground) fs os n gs qs (length fs) (f .grows);
-  game = f .game;
-  kind = kind-position r ground (f .game) (f .kind);
-  apart = f .apart;
+  game = f .game; kind = kind-position r ground (f .game) (f .kind); apart = f .apart;
 }
 not-formed r ground fs os n gs qs Wide f = record { form = f .form; canonical = f .canonical; kind = kind-position r ground (f .form) (f .kind); wide = f .wide }
 not-formed r ground fs os n gs qs NoMemory f = tt

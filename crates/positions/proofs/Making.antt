@@ -81,9 +81,9 @@ module _ (qs ps : List ℕ) (k set : ℕ) (sofar : Sofar qs ps k set) where
     λ j.
         has-or j set bit ∙ (λ t. sofar .1 j t || (ap (λ x. has x j) e ∙ has-pow i j) t)
         ∙ glue (ltb j (length qs)) (among (take k ps) (getD qs j 0)) (eqb j i) (eqb (getD ps k 0) (getD qs j 0))
-        (λ e. let same = eqb-true j i e in lt-ltb j (length qs) (omega arith))
-        (λ e. eq-eqb (getD ps k 0) (getD qs j 0) (sym is ∙ ap (λ n. getD qs n 0) (sym (eqb-true j i e))))
-        (λ l e. eq-eqb j i (one-number qs rise j i (ltb-true j (length qs) l) low (sym (eqb-true (getD ps k 0) (getD qs j 0) e) ∙ sym is)))
+          (λ e. let same = eqb-true j i e in lt-ltb j (length qs) (omega arith))
+          (λ e. eq-eqb (getD ps k 0) (getD qs j 0) (sym is ∙ ap (λ n. getD qs n 0) (sym (eqb-true j i e))))
+          (λ l e. eq-eqb j i (one-number qs rise j i (ltb-true j (length qs) l) low (sym (eqb-true (getD ps k 0) (getD qs j 0) e) ∙ sym is)))
         ∙ ap (λ x. ltb j (length qs) && x) (sym (ap (λ l. among l (getD qs j 0)) (take-more ps k 0 h) ∙ among-push (take k ps) (getD ps k 0) (getD qs j 0))),
   )
 
@@ -129,11 +129,11 @@ module _ (b : Grid) (qs row : List ℕ) (s : Side) (k m : ℕ) (long : length ro
 pub made-more : (b : Grid) (qs us ls : List ℕ) (k x y : ℕ) → k < 16 → x < 2 ^ 16 → y < 2 ^ 16 → Made-to b qs us ls k → Move b qs true k x → Move b qs false k y → Made-to b qs (set us k x) (set ls k y) (k + 1)
 made-more b qs us ls k x y low p q sofar up down = record {
   places = λ s. elim s as (λ t. length (ofSide t (set us k x) (set ls k y)) ≡ 16)
-      [ true ↦ row-places b qs us true k x (sofar .places true) low | false ↦ row-places b qs ls false k y (sofar .places false) low ];
+    [ true ↦ row-places b qs us true k x (sofar .places true) low | false ↦ row-places b qs ls false k y (sofar .places false) low ];
   small = λ s. elim s as (λ t. (i : ℕ) → getD (ofSide t (set us k x) (set ls k y)) i 0 < 2 ^ 16)
-      [ true ↦ row-small b qs us true k x (sofar .places true) low p (sofar .small true) | false ↦ row-small b qs ls false k y (sofar .places false) low q (sofar .small false) ];
+    [ true ↦ row-small b qs us true k x (sofar .places true) low p (sofar .small true) | false ↦ row-small b qs ls false k y (sofar .places false) low q (sofar .small false) ];
   each = λ s. elim s as (λ t. (i : ℕ) → i < k + 1 → Move b qs t i (getD (ofSide t (set us k x) (set ls k y)) i 0))
-      [ true ↦ row-each b qs us true k x (sofar .places true) low (sofar .each true) up | false ↦ row-each b qs ls false k y (sofar .places false) low (sofar .each false) down ];
+    [ true ↦ row-each b qs us true k x (sofar .places true) low (sofar .each true) up | false ↦ row-each b qs ls false k y (sofar .places false) low (sofar .each false) down ];
 }
 
 -- before the first
@@ -150,11 +150,8 @@ made-none b qs = record {
 -- after the last
 pub made-all : (b : Grid) (qs us ls : List ℕ) (k : ℕ) → length qs ≤ k → length qs ≤ 16 → Room b qs → Made-to b qs us ls k → Ground b qs us ls
 made-all b qs us ls k h few room made = record {
-  inside = room .inside;
-  rising = room .rising;
-  few = few;
-  places = made .places;
-  small = made .small;
+  inside = room .inside; rising = room .rising; few = few;
+  places = made .places; small = made .small;
   each = λ s i low. made .each s i (omega arith);
 }
 

@@ -53,7 +53,8 @@ module _ (b : Grid) (qs : List ℕ) (ms : Moves) (made : Ground b qs (ms .uprigh
   can-there set p s lawful =
       let at = place-at b qs (made .rising) s set p lawful in
       let i = at .number in
-      let ins = inside-at b qs (made .rising) s set p lawful in (
+      let ins = inside-at b qs (made .rising) s set p lawful in
+      (
         i,
         at .is,
         record {
@@ -100,6 +101,6 @@ module _ (b : Grid) (qs : List ℕ) (ms : Moves) (made : Ground b qs (ms .uprigh
   comes-leads {c} {d} (after s p lawful on) set e =
       let there = can-there set p s (subst (λ x. may x s p ≡ true) e lawful) in
       let next : laid c s p ≡ position b qs (set - set-at ms s (there .0)) =
-      (λ t. laid (e t) s p) ∙ ap (laid (position b qs set) s) (sym (there .1)) ∙ laid-there set s (there .0) (there .2) in
+          (λ t. laid (e t) s p) ∙ ap (laid (position b qs set) s) (sym (there .1)) ∙ laid-there set s (there .0) (there .2) in
       let rest = comes-leads on (set - set-at ms s (there .0)) next in
       (rest .0, move s (there .0) (there .2) (rest .1), rest .2)

@@ -64,7 +64,7 @@ module _ (b : Grid) (qs : List ℕ) (room : (q : ℕ) → Has qs q → free b q 
       let in-qs = of-all-among (covered b s (getD qs i 0)) qs (parts .1) in
       to-through b (chosen qs set) s (getD qs i 0)
       (and-from (fits (b .width) (length (b .cells)) s (getD qs i 0)) (all-free b (covered b s (getD qs i 0))) (parts .0)
-      (all-free-from b (covered b s (getD qs i 0)) (all-by-has (λ p. free b p ≡ true) (covered b s (getD qs i 0)) (λ p h. room p (in-qs p h)))))
+        (all-free-from b (covered b s (getD qs i 0)) (all-by-has (λ p. free b p ≡ true) (covered b s (getD qs i 0)) (λ p h. room p (in-qs p h)))))
       (all-by-has (Has (chosen qs set)) (covered b s (getD qs i 0)) (λ p h. in-set p h (in-qs p h)))
     where
       in-set : (p : ℕ) → Has (covered b s (getD qs i 0)) p → Has qs p → Has (chosen qs set) p
@@ -83,9 +83,9 @@ module _ (b : Grid) (qs : List ℕ) (room : (q : ℕ) → Has qs q → free b q 
           let parts = and-parts (not (among (covered b s (getD qs i 0)) q)) (among (chosen qs set) q) e in
           let at = has-chosen qs set q (among-has (chosen qs set) q (parts .1)) in
           let out : has m (at .number) ≡ false =
-          ⊎-elim
-          (λ t. absurd (both-ways (among (covered b s (getD qs i 0)) q) (not-true (among (covered b s (getD qs i 0)) q) (parts .0)) (has-among (covered b s (getD qs i 0)) q (subst (Has (covered b s (getD qs i 0))) (at .is) (covered-has (at .number) t .1)))))
-          (λ f. f) (cases-bool (has m (at .number))) in
+              ⊎-elim
+              (λ t. absurd (both-ways (among (covered b s (getD qs i 0)) q) (not-true (among (covered b s (getD qs i 0)) q) (parts .0)) (has-among (covered b s (getD qs i 0)) q (subst (Has (covered b s (getD qs i 0))) (at .is) (covered-has (at .number) t .1)))))
+              (λ f. f) (cases-bool (has m (at .number))) in
           let stays : has (set - m) (at .number) ≡ true = has-left (at .number) set m part ∙ and-from (has set (at .number)) (not (has m (at .number))) (at .member) (ap not out) in
           has-among (chosen qs (set - m)) q (subst (Has (chosen qs (set - m))) (at .is) (chosen-has qs (set - m) (at .number) (at .low) stays))
 
@@ -95,8 +95,8 @@ module _ (b : Grid) (qs : List ℕ) (room : (q : ℕ) → Has qs q → free b q 
           let parts = and-parts (has set (at .number)) (not (has m (at .number))) (sym (has-left (at .number) set m part) ∙ at .member) in
           and-from (not (among (covered b s (getD qs i 0)) q)) (among (chosen qs set) q)
           (⊎-elim
-          (λ t. absurd (both-ways (has m (at .number)) (not-true (has m (at .number)) (parts .1)) (has-covered (at .number) (at .low) (subst (Has (covered b s (getD qs i 0))) (sym (at .is)) (among-has (covered b s (getD qs i 0)) q t)))))
-          (λ f. ap not f) (cases-bool (among (covered b s (getD qs i 0)) q)))
+            (λ t. absurd (both-ways (has m (at .number)) (not-true (has m (at .number)) (parts .1)) (has-covered (at .number) (at .low) (subst (Has (covered b s (getD qs i 0))) (sym (at .is)) (among-has (covered b s (getD qs i 0)) q t)))))
+            (λ f. ap not f) (cases-bool (among (covered b s (getD qs i 0)) q)))
           (has-among (chosen qs set) q (subst (Has (chosen qs set)) (at .is) (chosen-has qs set (at .number) (at .low) (parts .0))))
 
   -- the move leads to the position without them
@@ -132,8 +132,8 @@ module _ (b : Grid) (qs : List ℕ) (rise : Rise (λ q. q) qs) (s : Side) (set p
   inside-at =
       subst (λ q. (fits (b .width) (length (b .cells)) s q && all-among (covers (b .width) (length (b .cells)) s q) qs) ≡ true) (sym (place-at .is))
       (and-from (fits (b .width) (length (b .cells)) s p) (all-among (covered b s p) qs)
-      (and-parts (fits (b .width) (length (b .cells)) s p) (all-free b (covered b s p)) (held .0) .0)
-      (to-all-among (covered b s p) qs (all-by-has (Has qs) (covered b s p) (λ q h. in-room q (all-has (Has (chosen qs set)) (covered b s p) q (held .1) h)))))
+        (and-parts (fits (b .width) (length (b .cells)) s p) (all-free b (covered b s p)) (held .0) .0)
+        (to-all-among (covered b s p) qs (all-by-has (Has qs) (covered b s p) (λ q h. in-room q (all-has (Has (chosen qs set)) (covered b s p) q (held .1) h)))))
     where
       in-room : (q : ℕ) → Has (chosen qs set) q → Has qs q
       in-room q h = let at = has-chosen qs set q h in subst (Has qs) (at .is) (has-getD qs (at .number) 0 (at .low))

@@ -69,7 +69,7 @@ module _ (r : RoomMoves) where
   row-one-more at s k fs os n ps gs qs u rs hs ws v ts row new rest x sofar can left found ins = (
     went-on fs os n ps gs qs u rs hs ws v ts (sofar .0) (found .0),
     row-more (length (roomSquares r)) (movesOf r) (gameOf r) (fullOf r) at s k hs ws v ts row new x can (found .0 .memory) (ap (λ a. getD ts a 0) (sym left) ∙ found .1)
-        (row-on at s k gs qs u rs hs ws v ts row (sofar .0 .grows .table) (found .0) (sofar .1)) ins,
+    (row-on at s k gs qs u rs hs ws v ts row (sofar .0 .grows .table) (found .0) (sofar .1)) ins,
   )
 
   -- what is noted is the number of a form in use
@@ -78,7 +78,7 @@ module _ (r : RoomMoves) where
 
   -- the two rows of a set
   module _ (at : ℕ) (fs : List Form) (os : List ℕ) (n : ℕ) (ps us ls : List ℕ) (table : Table fs os n) (memory : MemoryOf r fs os n ps)
-      (up : RowOf r at true (length (roomSquares r)) fs os n ps us) (down : RowOf r at false (length (roomSquares r)) fs os n ps ls) where
+    (up : RowOf r at true (length (roomSquares r)) fs os n ps us) (down : RowOf r at false (length (roomSquares r)) fs os n ps ls) where
     pub rows-known : (s : Side) → Known (take n fs) (ofSide s us ls)
     rows-known true = all-by-has (λ x. x < length (take n fs)) us (λ x h. let low = up .known x h in let long = use-length fs os n table in omega arith)
     rows-known false = all-by-has (λ x. x < length (take n fs)) ls (λ x h. let low = down .known x h in let long = use-length fs os n table in omega arith)
@@ -94,8 +94,8 @@ module _ (r : RoomMoves) where
         record {
           grows = grown;
           memory = remembers-more (length (roomSquares r)) (movesOf r) (gameOf r) (fullOf r) gs qs u ps at k low
-              (remembers-kept (length (roomSquares r)) (movesOf r) (gameOf r) (fullOf r) (KindOf r) fs os n gs qs u ps table grown memory)
-              (a .known) leads same (children-noted (length (roomSquares r)) (movesOf r) (gameOf r) (fullOf r) at fs os n ps us ls up down);
+            (remembers-kept (length (roomSquares r)) (movesOf r) (gameOf r) (fullOf r) (KindOf r) fs os n gs qs u ps table grown memory)
+            (a .known) leads same (children-noted (length (roomSquares r)) (movesOf r) (gameOf r) (fullOf r) at fs os n ps us ls up down);
           stays = λ x h z. ⊎-elim (λ e. let y = ap (λ b. getD (set ps at (k + 1)) b 0) e ∙ getD-set-same ps at (k + 1) 0 low in omega arith) (λ ne. h (sym (getD-set-other ps at x (k + 1) 0 ne) ∙ z)) (cases-eq x at);
         },
         getD-set-same ps at (k + 1) 0 low ∙ (let e : k + 1 ≡ suc k = omega arith in e),
@@ -106,9 +106,7 @@ module _ (r : RoomMoves) where
 
           grown : Grows (KindOf r) fs os n gs qs u
           grown = record {
-            table = a .table;
-            long = long;
-            kept = a .kept;
+            table = a .table; long = long; kept = a .kept;
             new = λ j low high. ⊎-elim (λ e. absurd (let x = e .0 in omega arith)) (λ e. let x : k ≡ j = (let y = e .0 in let z = e .1 in omega arith) in (at, leads, subst (λ i. Equal (meaning (take u gs) qs i) (gameOf r at)) x same)) (a .new);
           }
 
@@ -122,7 +120,7 @@ module _ (r : RoomMoves) where
             game = gameOf r at;
             kind = (at, leads, equal-refl (gameOf r at));
             apart = subst (λ m. (k : ℕ) → k < m → Equal (gameOf r at) (meaning (take m fs) os k) → ⊥) (no-form .0)
-                (λ k h eq. no-form .1 k h (equal-trans (equal-sym eq) the-game));
+              (λ k h eq. no-form .1 k h (equal-trans (equal-sym eq) the-game));
           }
       unplaced gs qs Wide f o wide = record { form = wide .0; canonical = wide .1; kind = (at, leads, equal-trans (equal-sym (wide .2)) (equal-sym the-game)); wide = wide .3 }
       unplaced gs qs NoMemory f o wide = tt

@@ -5,12 +5,12 @@ ghost use Rattle.forms.specs.Links.{Table};
 ghost use Rattle.board.specs.Values.{sideOf};
 ghost use Rattle.positions.specs.Forming.{LeadsTo, MemoryOf, Formed, RowFormed};
 ghost use Rattle.positions.specs.Values.{GroundOf, fullOf};
-use crate::room::RoomMoves;
 use board::side::Side;
+use canonical::canonical::canonical;
 use canonical::canonical::Placed;
 use canonical::canonical::Refusal;
-use canonical::canonical::canonical;
 use canonical::rising::insert;
+use crate::room::RoomMoves;
 use forms::rows::Form;
 use std::alloc::Global;
 
@@ -45,40 +45,15 @@ pub fn form(
             used,
         });
     }
-    let upright = match option_row(
-        heap,
-        room,
-        forms,
-        options,
-        positions,
-        used,
-        set,
-        Side::Upright,
-    ) {
+    let upright = match option_row(heap, room, forms, options, positions, used, set, Side::Upright) {
         Ok(row) => row,
         Err(e) => return Err(e),
     };
-    let flat = match option_row(
-        heap,
-        room,
-        forms,
-        options,
-        positions,
-        upright.used,
-        set,
-        Side::Flat,
-    ) {
+    let flat = match option_row(heap, room, forms, options, positions, upright.used, set, Side::Flat) {
         Ok(row) => row,
         Err(e) => return Err(e),
     };
-    let placed = match canonical(
-        heap,
-        forms,
-        options,
-        flat.used,
-        upright.row.as_slice(),
-        flat.row.as_slice(),
-    ) {
+    let placed = match canonical(heap, forms, options, flat.used, upright.row.as_slice(), flat.row.as_slice()) {
         Ok(placed) => placed,
         Err(e) => return Err(e),
     };

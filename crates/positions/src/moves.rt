@@ -11,9 +11,9 @@ ghost use Rattle.rooms.specs.Rooms.{Room as RoomOf};
 ghost use Rattle.rooms.specs.Values.{squaresOf};
 ghost use Rattle.positions.specs.Sets.{Move, Set-of};
 ghost use Rattle.positions.specs.Values.{roomSquares, GroundOf, setOf, CanOf, fullOf};
-use crate::room::RoomMoves;
 use board::board::Board;
 use board::side::Side;
+use crate::room::RoomMoves;
 use rooms::room::Room;
 
 // The number of a square in a room.
@@ -80,12 +80,7 @@ impl RoomMoves {
             upright[i] = move_at(board, squares, Side::Upright, i);
             flat[i] = move_at(board, squares, Side::Flat, i);
         }
-        RoomMoves {
-            board: *board,
-            room: *room,
-            upright,
-            flat,
-        }
+        RoomMoves { board: *board, room: *room, upright, flat }
     }
 
     // How many squares the room has.

@@ -1,5 +1,5 @@
 -- Lemmas.
 pub mod Holding
-pub mod Widening
-pub mod Joining
-pub mod Adding
+pub mod Wider
+pub mod Gathering
+pub mod Summing

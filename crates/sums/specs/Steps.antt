@@ -15,7 +15,7 @@ use Rattle.forms.specs.Meaning.{meaning}
 use Rattle.canonical.specs.declared.canonical.Refusal.{Refusal}
 use Rattle.positions.specs.Growing.{Grows}
 use Rattle.positions.specs.declared.form.OptionRow.{OptionRow}
-use Rattle.sums.specs.Sums.{Adds, Holds-right, Fails}
+use Rattle.sums.specs.Sums.{Adds, Holds-right, Stopped}
 
 -- a rising row of forms in use
 pub record Row-known (n : ℕ) (row : List ℕ) : Type 0 where
@@ -48,9 +48,9 @@ pub record Sum-row (s : Side) (g h : Game) (fs : List Form) (os : List ℕ) (n :
 -- the forms that the moves in g make are put into a row
 abbrev pub Step-answer : Side → Game → Game → List Form → List ℕ → ℕ → List ℕ → List Form → List ℕ → List ℕ → List ℕ → Result ℕ Refusal → Type 0
 Step-answer s g h fs os n row gs qs rs new (Ok u) = Grew (Between g h) fs os n gs qs u rs × Moves-in s g h gs qs u row new
-Step-answer s g h fs os n row gs qs rs new (Err e) = Fails (Between g h) fs os n gs qs e
+Step-answer s g h fs os n row gs qs rs new (Err e) = Stopped (Between g h) fs os n gs qs e
 
 -- the row of the forms that the moves in either make
 abbrev pub Row-answer : Side → Game → Game → List Form → List ℕ → ℕ → List Form → List ℕ → List ℕ → Result OptionRow Refusal → Type 0
 Row-answer s g h fs os n gs qs rs (Ok a) = Grew (Between g h) fs os n gs qs (a .used) rs × Sum-row s g h gs qs (a .used) (vec-items (a .row))
-Row-answer s g h fs os n gs qs rs (Err e) = Fails (Between g h) fs os n gs qs e
+Row-answer s g h fs os n gs qs rs (Err e) = Stopped (Between g h) fs os n gs qs e

@@ -26,10 +26,10 @@ pub record Holds-right (fs : List Form) (os : List ℕ) (n : ℕ) (ps : List ℕ
       (x < n) × (y < n) × (k < n) × Adds (meaning (take n fs) os x) (meaning (take n fs) os y) (meaning (take n fs) os k)
 
 -- why there is no answer: the table grew by forms of the kind B until it was full, and one more is wanted; or one is too wide; or memory is wanting
-abbrev pub Fails : (Game → Type 0) → List Form → List ℕ → ℕ → List Form → List ℕ → Refusal → Type 0
-Fails B fs os n gs qs Full = Overfull B fs os n gs qs
-Fails B fs os n gs qs Wide = Too-wide B
-Fails B fs os n gs qs NoMemory = Unit {0}
+abbrev pub Stopped : (Game → Type 0) → List Form → List ℕ → ℕ → List Form → List ℕ → Refusal → Type 0
+Stopped B fs os n gs qs Full = Overfull B fs os n gs qs
+Stopped B fs os n gs qs Wide = Too-wide B
+Stopped B fs os n gs qs NoMemory = Unit {0}
 
 -- the form of the sum of g and h; the table grew by forms of such sums only, and what is remembered is right
 abbrev pub Sum-answer : Game → Game → List Form → List ℕ → ℕ → List Form → List ℕ → List ℕ → Result Placed Refusal → Type 0
@@ -38,7 +38,7 @@ Sum-answer g h fs os n gs qs rs (Ok a) =
     × (a .form < a .used)
     × Adds g h (meaning (take (a .used) gs) qs (a .form))
     × Holds-right gs qs (a .used) rs
-Sum-answer g h fs os n gs qs rs (Err e) = Fails (Between g h) fs os n gs qs e
+Sum-answer g h fs os n gs qs rs (Err e) = Stopped (Between g h) fs os n gs qs e
 
 -- the same of the games of two forms
 abbrev pub Summed-up : List Form → List ℕ → ℕ → ℕ → ℕ → List Form → List ℕ → List ℕ → Result Placed Refusal → Type 0

@@ -30,7 +30,7 @@ fn slot(places: usize, key: u32) -> Option<usize>
 }
 
 // The form of a sum, if it is remembered.
-pub fn recall(pairs: &[u32], x: u16, y: u16) -> Option<u16>
+pub(crate) fn recall(pairs: &[u32], x: u16, y: u16) -> Option<u16>
     requires first { ⌜ x < 16384 ⌝ }
     requires second { ⌜ y < 16384 ⌝ }
     ensures { λ r. ⌜ Recalled (now (pairs .entry)) x y r ⌝ }
@@ -47,7 +47,7 @@ pub fn recall(pairs: &[u32], x: u16, y: u16) -> Option<u16>
 }
 
 // Remembers the form of a sum, if there is a place.
-pub fn keep(pairs: &mut [u32], x: u16, y: u16, form: u16)
+pub(crate) fn keep(pairs: &mut [u32], x: u16, y: u16, form: u16)
     requires first { ⌜ x < 16384 ⌝ }
     requires second { ⌜ y < 16384 ⌝ }
     ensures { λ _. ⌜ Only-more (now (pairs .entry)) x y form (now (pairs .exit)) ⌝ }

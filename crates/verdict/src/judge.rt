@@ -1,12 +1,12 @@
 // Judging a board.
 ghost use Rattle.board.specs.Values.{sideOf, gridOf};
 ghost use Rattle.verdict.specs.Judging.{Judged, Judged-file, One-judgement, One-file-judgement};
-use crate::verdict::Said;
-use crate::verdict::Verdict;
 use board::board::Board;
 use board::read::read_board;
 use board::refusal::Refusal;
 use board::side::Side;
+use crate::verdict::Said;
+use crate::verdict::Verdict;
 use rooms::find::judged_rooms;
 use rooms::list::Rooms;
 use search::first_win;

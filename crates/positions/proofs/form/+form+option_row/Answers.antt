@@ -49,7 +49,7 @@ form-returns-in-Err-canonical t c =
     let end = c .in-Err-canonical .ensures tt in
     failed-on (c .args .room .now) _ _ _ _ _ _ _ _ _ _ (went-on (c .args .room .now) _ _ _ _ _ _ _ _ _ _ _ _ first second) _
     (unplaced (c .args .room .now) (c .args .set) _ _ _ _ (c .as-slice .result .now) (c .as-slice-2 .result .now) (second .grows .table) (second .memory) (upright-row t rows) (flat-row t rows) (c .pre .ground) (c .pre .reached)
-    (c .canonical .last .forms) (c .canonical .last .options) (c .in-Err-canonical .e) (end .0) (end .1) (end .2))
+      (c .canonical .last .forms) (c .canonical .last .options) (c .in-Err-canonical .e) (end .0) (end .1) (end .2))
 
 pub form-returns : need.form-returns
 form-returns t c =
@@ -57,28 +57,19 @@ form-returns t c =
     let second = c .in-Ok-option-row .ensures tt .0 in
     let rows = need.at·form-returns t c .After-as-slice-2 in
     let end =
-    placed (c .args .room .now) (c .args .set) _ _ _ _ (c .as-slice .result .now) (c .as-slice-2 .result .now) (second .grows .table) (second .memory) (upright-row t rows) (flat-row t rows) (c .pre .ground) (c .pre .reached)
-    (c .canonical .last .forms) (c .canonical .last .options) (c .in-Ok-canonical .placed .form) (c .in-Ok-canonical .placed .used) (c .canonical .kept .forms)
-    (let a = c .option-row .kept .positions in let b = c .option-row-2 .kept .positions in let l = c .pre .long in let f = leads-le (length (roomSquares (c .args .room .now))) (movesOf (c .args .room .now)) (c .pre .reached) in omega arith)
-    (c .in-Ok-canonical .ensures tt) in
+        placed (c .args .room .now) (c .args .set) _ _ _ _ (c .as-slice .result .now) (c .as-slice-2 .result .now) (second .grows .table) (second .memory) (upright-row t rows) (flat-row t rows) (c .pre .ground) (c .pre .reached)
+        (c .canonical .last .forms) (c .canonical .last .options) (c .in-Ok-canonical .placed .form) (c .in-Ok-canonical .placed .used) (c .canonical .kept .forms)
+        (let a = c .option-row .kept .positions in let b = c .option-row-2 .kept .positions in let l = c .pre .long in let f = leads-le (length (roomSquares (c .args .room .now))) (movesOf (c .args .room .now)) (c .pre .reached) in omega arith)
+        (c .in-Ok-canonical .ensures tt) in
     (went-on (c .args .room .now) _ _ _ _ _ _ _ _ _ _ _ _ (went-on (c .args .room .now) _ _ _ _ _ _ _ _ _ _ _ _ first second) (end .0), end .1)
 
 pub option-row-form-requires : need.option-row-form-requires
 option-row-form-requires t c κs =
     let at = c .in-Some .ensures tt in
-    let less = fewer-ones (gridOf (c .args .room .now .board)) (roomSquares (c .args .room .now)) (movesOf (c .args .room .now)) (c .pre .ground) (c .args .set) (c .fits .set .fits) (sideOf (c .args .side)) (c .loop-i .i) (at .0) in (
-      let same = ap ones (at .1) in omega (arith, c .measured),
-      (
-        c .pre .ground,
-        (
-          c .loop-i .inv .0 .grows .table,
-          (
-            omega arith,
-            (c .loop-i .inv .0 .memory, subst (LeadsTo (c .args .room .now)) (sym (at .1)) (leads-one (length (roomSquares (c .args .room .now))) (movesOf (c .args .room .now)) (sideOf (c .args .side)) (c .loop-i .i) (c .pre .reached) (at .0))),
-          ),
-        ),
-      ),
-    )
+    let less = fewer-ones (gridOf (c .args .room .now .board)) (roomSquares (c .args .room .now)) (movesOf (c .args .room .now)) (c .pre .ground) (c .args .set) (c .fits .set .fits) (sideOf (c .args .side)) (c .loop-i .i) (at .0) in
+    (let same = ap ones (at .1) in omega (arith, c .measured),
+    (c .pre .ground, (c .loop-i .inv .0 .grows .table, (omega arith,
+    (c .loop-i .inv .0 .memory, subst (LeadsTo (c .args .room .now)) (sym (at .1)) (leads-one (length (roomSquares (c .args .room .now))) (movesOf (c .args .room .now)) (sideOf (c .args .side)) (c .loop-i .i) (c .pre .reached) (at .0)))))))
 
 pub option-row-returns-in-Err : need.option-row-returns-in-Err
 option-row-returns-in-Err t c = failed-on (c .args .room .now) _ _ _ _ _ _ _ _ _ _ (c .loop-i .inv .0) _ (c .in-Err .ensures tt)

@@ -9,10 +9,10 @@ use Rattle.forms.specs.Rows.{rowOf}
 use Rattle.forms.specs.Meaning.{meaning}
 use Rattle.positions.proofs.Growth.{grows-far, grows-none}
 use Rattle.sums.specs.Steps.{Grew, Sum-row}
-use Rattle.sums.proofs.Widening.{fails-on}
+use Rattle.sums.proofs.Wider.{stopped-on}
 use Rattle.sums.proofs.Holding.{recalled}
-use Rattle.sums.proofs.Joining.{below, row-same, step-more, step-fails, step-all}
-use Rattle.sums.proofs.Adding.{both-moves, other-fails, both-rows, later-fails, rows-known, placed, unplaced, summed}
+use Rattle.sums.proofs.Gathering.{below, row-same, step-more, step-fails, step-all}
+use Rattle.sums.proofs.Summing.{both-moves, other-fails, both-rows, later-fails, rows-known, placed, unplaced, summed}
 use Rattle.sums.proofs.sum.+moves+step+sum.Needs as need
 use Rattle.sums.proofs.sum.+moves+step+sum.Needs.{step-After-row, sum-After-as-slice-2}
 
@@ -103,7 +103,7 @@ pub sum-returns-in-Err-canonical : need.sum-returns-in-Err-canonical
 sum-returns-in-Err-canonical t c =
     let both = rows t (need.at·sum-returns-in-Err-canonical t c .After-as-slice-2) in
     let end = c .in-Err-canonical .ensures tt in
-    fails-on _ _ _ _ _ _ _ _ _ (both .0 .grows) _
+    stopped-on _ _ _ _ _ _ _ _ _ _ (both .0 .grows)
     (unplaced _ _ _ _ _ (c .as-slice .result .now) (c .as-slice-2 .result .now) (both .0 .grows .table) (both .1) (both .2)
     (c .canonical .last .forms) (c .canonical .last .options) (c .in-Err-canonical .e) (end .0) (end .1) (end .2))
 

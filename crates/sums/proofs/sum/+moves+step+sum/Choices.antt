@@ -4,7 +4,7 @@ use Rattle.std.specs.Of.Vec.{vec-items}
 use Rattle.games.specs.Count.{Between}
 use Rattle.forms.specs.Meaning.{meaning}
 use Rattle.sums.specs.Steps.{Grew}
-use Rattle.sums.proofs.Joining.{Joined, optionOf}
+use Rattle.sums.proofs.Gathering.{Gathered, optionOf}
 use Rattle.sums.proofs.sum.+moves+step+sum.Given as given
 
 abbrev pub μ-sum : given.MeasureT-sum
@@ -19,4 +19,4 @@ abbrev pub μ-step : given.MeasureT-step
 abbrev pub Inv-step-loop-i : given.InvT-step-loop-i
 Inv-step-loop-i l =
     Grew (Between (meaning (take (l .used) (l .entry .forms)) (l .entry .options) (l .x)) (meaning (take (l .used) (l .entry .forms)) (l .entry .options) (l .y))) (l .entry .forms) (l .entry .options) (l .used) (l .forms) (l .options) (l .grown) (l .pairs)
-    × Joined (optionOf (take (l .used) (l .entry .forms)) (l .entry .options) (l .side) (l .x)) (l .i) (meaning (take (l .used) (l .entry .forms)) (l .entry .options) (l .y)) (l .forms) (l .options) (l .grown) (vec-items (l .entry .sums)) (vec-items (l .sums))
+    × Gathered (optionOf (take (l .used) (l .entry .forms)) (l .entry .options) (l .side) (l .x)) (l .i) (meaning (take (l .used) (l .entry .forms)) (l .entry .options) (l .y)) (l .forms) (l .options) (l .grown) (vec-items (l .entry .sums)) (vec-items (l .sums))

@@ -43,6 +43,6 @@ returns c =
       board = refl;
       room = refl;
       ground =
-          made-all (gridOf (c .args .board .now)) _ (c .loop-i .upright) (c .loop-i .flat) (c .loop-i .i) (let long = ap length (c .squares-squares .ensures) in omega arith) few (c .pre .room)
-          (subst (λ l. Made-to (gridOf (c .args .board .now)) l (c .loop-i .upright) (c .loop-i .flat) (c .loop-i .i)) (c .squares-squares .ensures) (c .loop-i .inv));
+        made-all (gridOf (c .args .board .now)) _ (c .loop-i .upright) (c .loop-i .flat) (c .loop-i .i) (let long = ap length (c .squares-squares .ensures) in omega arith) few (c .pre .room)
+        (subst (λ l. Made-to (gridOf (c .args .board .now)) l (c .loop-i .upright) (c .loop-i .flat) (c .loop-i .i)) (c .squares-squares .ensures) (c .loop-i .inv));
     }

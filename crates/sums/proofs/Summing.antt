@@ -31,9 +31,9 @@ use Rattle.canonical.specs.declared.canonical.Refusal.the-variants.{Full, Wide,
 use Rattle.positions.specs.Growing.{Grows, Overfull}
 use Rattle.positions.proofs.Growth.{grows-none, grows-far, grows-meaning, grows-on}
 use Rattle.sums.specs.Pairs.{Only-more}
-use Rattle.sums.specs.Sums.{Adds, Holds-right, Fails, Sum-answer}
+use Rattle.sums.specs.Sums.{Adds, Holds-right, Stopped, Sum-answer}
 use Rattle.sums.specs.Steps.{Row-known, Grew, Moved, Moves-in, Sum-row, Step-answer}
-use Rattle.sums.proofs.Widening.{between-turned, grew-on, fails-on, as-before, grew-as, fails-as}
+use Rattle.sums.proofs.Wider.{between-turned, grew-on, stopped-on, as-before, grew-as, stopped-as}
 use Rattle.sums.proofs.Holding.{adds-turned, holds-kept, holds-more}
 
 -- a row stays right while the table grows
@@ -81,11 +81,11 @@ module _ (fs : List Form) (os : List ℕ) (n : ℕ) (s : Side) (x y : ℕ) (tabl
       later : (w : ℕ) → Has row w → (z : Game) → Adds z (meaning (take n fs) os y) (meaning (take u gs) qs w) → Adds z (meaning (take n fs) os y) (meaning (take v hs) ws w)
       later w has z a = subst (λ f. Adds z (meaning (take n fs) os y) f) (sym (grows-meaning B gs qs u hs ws v (grew .grows .table) (on .grows) w (one .sound .known w has))) a
 
-  pub other-fails : (e : Refusal) → Fails (Between (meaning (take u gs) qs y) (meaning (take u gs) qs x)) gs qs u hs ws e → Fails B fs os n hs ws e
+  pub other-fails : (e : Refusal) → Stopped (Between (meaning (take u gs) qs y) (meaning (take u gs) qs x)) gs qs u hs ws e → Stopped B fs os n hs ws e
   other-fails e other =
-      fails-on B fs os n gs qs u hs ws (grew .grows) e
-      (fails-as C B (between-turned (meaning (take n fs) os x) (meaning (take n fs) os y)) gs qs u hs ws e
-      (as-before B fs os n gs qs u (λ g h. Fails (Between g h) gs qs u hs ws e) y x table (grew .grows) second first other))
+      stopped-on B fs os n gs qs u hs ws e (grew .grows)
+      (stopped-as C B (between-turned (meaning (take n fs) os x) (meaning (take n fs) os y)) gs qs u hs ws e
+      (as-before B fs os n gs qs u (λ g h. Stopped (Between g h) gs qs u hs ws e) y x table (grew .grows) second first other))
 
 -- the moves of the one player and then those of the other
 module _ (fs : List Form) (os : List ℕ) (n x y : ℕ) (table : Table fs os n) (first : x < n) (second : y < n)
@@ -105,11 +105,11 @@ module _ (fs : List Form) (os : List ℕ) (n x y : ℕ) (table : Table fs os n) 
         two .1,
       )
 
-  pub later-fails : (e : Refusal) → Fails (Between (meaning (take u gs) qs x) (meaning (take u gs) qs y)) gs qs u hs ws e →
-      Fails (Between (meaning (take n fs) os x) (meaning (take n fs) os y)) fs os n hs ws e
+  pub later-fails : (e : Refusal) → Stopped (Between (meaning (take u gs) qs x) (meaning (take u gs) qs y)) gs qs u hs ws e →
+      Stopped (Between (meaning (take n fs) os x) (meaning (take n fs) os y)) fs os n hs ws e
   later-fails e other =
-      fails-on (Between (meaning (take n fs) os x) (meaning (take n fs) os y)) fs os n gs qs u hs ws (grew .grows) e
-      (as-before (Between (meaning (take n fs) os x) (meaning (take n fs) os y)) fs os n gs qs u (λ g h. Fails (Between g h) gs qs u hs ws e) x y table (grew .grows) first second other)
+      stopped-on (Between (meaning (take n fs) os x) (meaning (take n fs) os y)) fs os n gs qs u hs ws e (grew .grows)
+      (as-before (Between (meaning (take n fs) os x) (meaning (take n fs) os y)) fs os n gs qs u (λ g h. Stopped (Between g h) gs qs u hs ws e) x y table (grew .grows) first second other)
 
 -- the two rows of a sum
 module _ (g h : Game) (fs : List Form) (os : List ℕ) (n : ℕ) (us ls : List ℕ) (table : Table fs os n)
@@ -167,7 +167,7 @@ module _ (g h : Game) (fs : List Form) (os : List ℕ) (n : ℕ) (us ls : List �
       equal = equal-trans same (equal-sym (a .equal))
 
   -- or there is none
-  pub unplaced : (gs : List Form) (qs : List ℕ) (e : Refusal) → gs ≡ fs → qs ≡ os → Refused fs os n (given (take n fs) os us ls) e → Fails (Between g h) fs os n gs qs e
+  pub unplaced : (gs : List Form) (qs : List ℕ) (e : Refusal) → gs ≡ fs → qs ≡ os → Refused fs os n (given (take n fs) os us ls) e → Stopped (Between g h) fs os n gs qs e
   unplaced gs qs Full f o no-form = subst (λ x. Overfull (Between g h) fs os n x qs) (sym f) (subst (λ x. Overfull (Between g h) fs os n fs x) (sym o) full)
     where
       full : Overfull (Between g h) fs os n fs os

@@ -23,29 +23,29 @@ use Rattle.canonical.specs.declared.canonical.Placed.{Placed}
 use Rattle.canonical.specs.declared.canonical.Refusal.{Refusal}
 use Rattle.positions.specs.Growing.{Grows}
 use Rattle.positions.proofs.Growth.{grows-as, grows-far, grows-meaning, grows-on}
-use Rattle.sums.specs.Sums.{Adds, Fails, Sum-answer, Summed-up}
+use Rattle.sums.specs.Sums.{Adds, Stopped, Sum-answer, Summed-up}
 use Rattle.sums.specs.Steps.{Row-known, Grew, Moves-in}
-use Rattle.sums.proofs.Widening.{between-one, fails-on, as-before, fails-as}
+use Rattle.sums.proofs.Wider.{between-one, stopped-on, as-before, stopped-as}
 
 -- the game of option number i of form x for a side
 abbrev pub optionOf : List Form → List ℕ → Side → ℕ → ℕ → Game
 optionOf fs os s x i = meaning fs os (getD (rowOf fs os s x) i 0)
 
 -- a row after the forms of the sums of the first k of some games with h were put in
-pub record Joined (games : ℕ → Game) (k : ℕ) (h : Game) (fs : List Form) (os : List ℕ) (n : ℕ) (row new : List ℕ) : Type 0 where
+pub record Gathered (games : ℕ → Game) (k : ℕ) (h : Game) (fs : List Form) (os : List ℕ) (n : ℕ) (row new : List ℕ) : Type 0 where
   pub sound : Row-known n new
   pub stays : (w : ℕ) → Has row w → Has new w
   pub right : (w : ℕ) → Has new w → Has row w ⊎ ((i : ℕ) × (i < k) × Adds (games i) h (meaning (take n fs) os w))
   pub all : (i : ℕ) → i < k → (w : ℕ) × Has new w × Adds (games i) h (meaning (take n fs) os w)
 
 module _ (games : ℕ → Game) (h : Game) where
-  pub joined-none : (fs : List Form) (os : List ℕ) (n : ℕ) (row : List ℕ) → Row-known n row → Joined games 0 h fs os n row row
-  joined-none fs os n row known = record { sound = known; stays = λ w has. has; right = λ w has. inl has; all = λ i low. absurd (omega arith) }
+  pub gathered-none : (fs : List Form) (os : List ℕ) (n : ℕ) (row : List ℕ) → Row-known n row → Gathered games 0 h fs os n row row
+  gathered-none fs os n row known = record { sound = known; stays = λ w has. has; right = λ w has. inl has; all = λ i low. absurd (omega arith) }
 
   -- a row stays right while the table grows
-  joined-kept : (B : Game → Type 0) (k : ℕ) (fs : List Form) (os : List ℕ) (n : ℕ) (gs : List Form) (qs : List ℕ) (u : ℕ) (row new : List ℕ) →
-      Table fs os n → Grows B fs os n gs qs u → Joined games k h fs os n row new → Joined games k h gs qs u row new
-  joined-kept B k fs os n gs qs u row new table grows j = record {
+  gathered-kept : (B : Game → Type 0) (k : ℕ) (fs : List Form) (os : List ℕ) (n : ℕ) (gs : List Form) (qs : List ℕ) (u : ℕ) (row new : List ℕ) →
+      Table fs os n → Grows B fs os n gs qs u → Gathered games k h fs os n row new → Gathered games k h gs qs u row new
+  gathered-kept B k fs os n gs qs u row new table grows j = record {
     sound = record { rising = j .sound .rising; known = λ w has. let far = grows-far B fs os n gs qs u table grows in let low = j .sound .known w has in omega arith };
     stays = j .stays;
     right = λ w has. ⊎-elim (λ old. inl old) (λ a. inr (a .0, a .1, later w has (a .0) (a .2))) (j .right w has);
@@ -56,9 +56,9 @@ module _ (games : ℕ → Game) (h : Game) where
       later w has i a = subst (λ f. Adds (games i) h f) (sym (grows-meaning B fs os n gs qs u table grows w (j .sound .known w has))) a
 
   -- one more form in the row
-  joined-more : (k : ℕ) (fs : List Form) (os : List ℕ) (n : ℕ) (row new newer : List ℕ) (x : ℕ) → x < n → Adds (games k) h (meaning (take n fs) os x) →
-      Joined games k h fs os n row new → Inserted new x newer → Joined games (k + 1) h fs os n row newer
-  joined-more k fs os n row new newer x low adds j ins = record {
+  gathered-more : (k : ℕ) (fs : List Form) (os : List ℕ) (n : ℕ) (row new newer : List ℕ) (x : ℕ) → x < n → Adds (games k) h (meaning (take n fs) os x) →
+      Gathered games k h fs os n row new → Inserted new x newer → Gathered games (k + 1) h fs os n row newer
+  gathered-more k fs os n row new newer x low adds j ins = record {
     sound = record { rising = ins .rising; known = λ w has. ⊎-elim (λ old. j .sound .known w old) (λ same. omega arith) (ins .only w has) };
     stays = λ w has. ins .stays w (j .stays w has);
     right = λ w has.
@@ -100,14 +100,14 @@ module _ (fs : List Form) (os : List ℕ) (n : ℕ) (s : Side) (x y : ℕ) (tabl
     low = let b = below i less in omega arith
 
     -- one more option joins
-    pub step-more : (ts row new newer : List ℕ) (a : Placed) → Joined (optionOf (take n fs) os s x) i (meaning (take n fs) os y) gs qs u row new →
+    pub step-more : (ts row new newer : List ℕ) (a : Placed) → Gathered (optionOf (take n fs) os s x) i (meaning (take n fs) os y) gs qs u row new →
         Summed-up gs qs u o y hs ws ts (Ok a) → Inserted new (a .form) newer →
-        Grew B fs os n hs ws (a .used) ts × Joined (optionOf (take n fs) os s x) (i + 1) (meaning (take n fs) os y) hs ws (a .used) row newer
-    step-more ts row new newer a joined summed ins = (
+        Grew B fs os n hs ws (a .used) ts × Gathered (optionOf (take n fs) os s x) (i + 1) (meaning (take n fs) os y) hs ws (a .used) row newer
+    step-more ts row new newer a gathered summed ins = (
       record { grows = grows-on B fs os n gs qs u hs ws (a .used) (grew .grows) grown; holds = found .3 },
-      joined-more (optionOf (take n fs) os s x) (meaning (take n fs) os y) i hs ws (a .used) row new newer (a .form) (found .1)
+      gathered-more (optionOf (take n fs) os s x) (meaning (take n fs) os y) i hs ws (a .used) row new newer (a .form) (found .1)
           (subst (λ k. Adds (meaning (take n fs) os k) (meaning (take n fs) os y) (meaning (take (a .used) hs) ws (a .form))) at (found .2))
-          (joined-kept (optionOf (take n fs) os s x) (meaning (take n fs) os y) B i gs qs u hs ws (a .used) row new (grew .grows .table) grown joined) ins,
+          (gathered-kept (optionOf (take n fs) os s x) (meaning (take n fs) os y) B i gs qs u hs ws (a .used) row new (grew .grows .table) grown gathered) ins,
     )
       where
         found : Sum-answer (meaning (take n fs) os o) (meaning (take n fs) os y) gs qs u hs ws ts (Ok a)
@@ -117,15 +117,15 @@ module _ (fs : List Form) (os : List ℕ) (n : ℕ) (s : Side) (x y : ℕ) (tabl
         grown = grows-as (Between (meaning (take n fs) os o) (meaning (take n fs) os y)) B wider gs qs u hs ws (a .used) (found .0)
 
     -- or has no sum
-    pub step-fails : (e : Refusal) → Fails (Between (meaning (take u gs) qs o) (meaning (take u gs) qs y)) gs qs u hs ws e → Fails B fs os n hs ws e
+    pub step-fails : (e : Refusal) → Stopped (Between (meaning (take u gs) qs o) (meaning (take u gs) qs y)) gs qs u hs ws e → Stopped B fs os n hs ws e
     step-fails e failed =
-        fails-on B fs os n gs qs u hs ws (grew .grows) e
-        (fails-as (Between (meaning (take n fs) os o) (meaning (take n fs) os y)) B wider gs qs u hs ws e
-        (as-before B fs os n gs qs u (λ g h. Fails (Between g h) gs qs u hs ws e) o y table (grew .grows) low second failed))
+        stopped-on B fs os n gs qs u hs ws e (grew .grows)
+        (stopped-as (Between (meaning (take n fs) os o) (meaning (take n fs) os y)) B wider gs qs u hs ws e
+        (as-before B fs os n gs qs u (λ g h. Stopped (Between g h) gs qs u hs ws e) o y table (grew .grows) low second failed))
 
-  -- when all have joined, all moves in x are there
+  -- when all have gathered, all moves in x are there
   pub step-all : (gs : List Form) (qs : List ℕ) (u : ℕ) (row new : List ℕ) (k : ℕ) → k ≡ length (rowOf (take n fs) os s x) →
-      Joined (optionOf (take n fs) os s x) k (meaning (take n fs) os y) gs qs u row new → Moves-in s (meaning (take n fs) os x) (meaning (take n fs) os y) gs qs u row new
+      Gathered (optionOf (take n fs) os s x) k (meaning (take n fs) os y) gs qs u row new → Moves-in s (meaning (take n fs) os x) (meaning (take n fs) os y) gs qs u row new
   step-all gs qs u row new k end j = record {
     sound = j .sound;
     stays = j .stays;
