@@ -1,5 +1,5 @@
 -- The sum of two forms from the rows of the moves in them.
-use mathlib.Core.Path.{_≡_, refl, sym, subst}
+use mathlib.Core.Path.{_≡_, sym, subst}
 use mathlib.Core.Logic.{_⊎_, inl, inr, ⊎-elim}
 use mathlib.Core.Bool.{true, false}
 use mathlib.Core.List.{List, []}
@@ -8,12 +8,12 @@ use native.Mathlib.Omega.{arith}
 use lib.ListN.{length, take}
 use Rattle.std.specs.shelf.Lists.{Has}
 use Rattle.std.specs.declared.result.Result.the-variants.{Ok}
-use Rattle.games.specs.Game.{Side, Game, Games, options, In, itself}
+use Rattle.games.specs.Game.{Side, Game, options, In, itself}
 use Rattle.games.specs.Order.{Equal}
-use Rattle.games.specs.Sum.{Sum, sum, Made, in-one, in-two, Found, found, Sum-exists, Sum-turns}
+use Rattle.games.specs.Sum.{Sum, sum, Made, in-one, in-two, Found, found, Sum-exists}
 use Rattle.games.specs.Count.{Between}
 use Rattle.games.proofs.Sides.{equal-refl, equal-sym, equal-trans}
-use Rattle.games.proofs.Sums.{sum-exists, sum-turns}
+use Rattle.games.proofs.Sums.{sum-exists}
 use Rattle.games.proofs.Along.{adds-one}
 use Rattle.forms.specs.declared.rows.Form.{Form}
 use Rattle.forms.specs.Rows.{ofSide}
@@ -31,8 +31,8 @@ use Rattle.canonical.specs.declared.canonical.Refusal.the-variants.{Full, Wide,
 use Rattle.positions.specs.Growing.{Grows, Overfull}
 use Rattle.positions.proofs.Growth.{grows-none, grows-far, grows-meaning, grows-on}
 use Rattle.sums.specs.Pairs.{Only-more}
-use Rattle.sums.specs.Sums.{Adds, Holds-right, Stopped, Sum-answer}
-use Rattle.sums.specs.Steps.{Row-known, Grew, Moved, Moves-in, Sum-row, Step-answer}
+use Rattle.sums.specs.Sums.{Adds, Stopped, Sum-answer}
+use Rattle.sums.specs.Steps.{Grew, Moved, Moves-in, Sum-row, Step-answer}
 use Rattle.sums.proofs.Wider.{between-turned, grew-on, stopped-on, as-before, grew-as, stopped-as}
 use Rattle.sums.proofs.Holding.{adds-turned, holds-kept, holds-more}
 
@@ -124,7 +124,6 @@ module _ (g h : Game) (fs : List Form) (os : List ℕ) (n : ℕ) (us ls : List �
 
   -- they are those of the sum
   rows-sum : (k : Game) → Sum g h k → Equal k (given (take n fs) os us ls)
-  unfolding Sum-turns
   rows-sum k (sum made one two) = equal-given (take n fs) os us ls k (λ s x i. forth s x (made s x i)) (λ s w has. back s w (side-row s .right w has))
     where
       forth : (s : Side) (x : Game) → Made s g h x → (w : ℕ) × Has (ofSide s us ls) w × Equal x (meaning (take n fs) os w)

@@ -1,9 +1,9 @@
 -- Tables that grew by one kind of games grew by every wider one; and so it is where the growth was stopped.
-use mathlib.Core.Path.{_≡_, subst}
+use mathlib.Core.Path.{subst}
 use mathlib.Core.List.{List}
 use Prim.Native.Nat.{ℕ, _<_}
 use lib.ListN.{length, take}
-use Rattle.games.specs.Game.{Side, Game, options, In, Reached, onward}
+use Rattle.games.specs.Game.{Side, Game, options, In, onward}
 use Rattle.games.specs.Sum.{Sum-turns}
 use Rattle.games.specs.Count.{Between}
 use Rattle.games.proofs.Sums.{sum-turns}

@@ -1,8 +1,7 @@
 // What is remembered of sums, in lent memory: for a pair of forms two places, one for its key and one for the form of its sum. A pair may push out another.
 ghost use mathlib.Core.Path.{_≡_};
 ghost use mathlib.Core.Logic.{_⊎_};
-ghost use Prim.Native.Nat.{ℕ, _+_, _*_, _<_};
-ghost use lib.ListN.{length};
+ghost use Prim.Native.Nat.{_+_, _*_, _<_};
 ghost use Rattle.std.specs.Options.{Cases};
 ghost use Rattle.sums.specs.Pairs.{keyOf, Recalled, Only-more};
 

@@ -1,4 +1,4 @@
-use mathlib.Core.Path.{_≡_, refl, sym, ap, subst, _∙_}
+use mathlib.Core.Path.{_≡_, sym, ap, subst}
 use mathlib.Core.Bool.{true, false}
 use native.Mathlib.Omega.{arith}
 use Prim.Native.Nat.{ℕ, _<_}
@@ -11,7 +11,7 @@ use Rattle.positions.proofs.Growth.{grows-far, grows-none}
 use Rattle.sums.specs.Steps.{Grew, Sum-row}
 use Rattle.sums.proofs.Wider.{stopped-on}
 use Rattle.sums.proofs.Holding.{recalled}
-use Rattle.sums.proofs.Gathering.{below, row-same, step-more, step-fails, step-all}
+use Rattle.sums.proofs.Gathering.{gathered-none, below, row-same, step-more, step-fails, step-all}
 use Rattle.sums.proofs.Summing.{both-moves, other-fails, both-rows, later-fails, rows-known, placed, unplaced, summed}
 use Rattle.sums.proofs.sum.+moves+step+sum.Needs as need
 use Rattle.sums.proofs.sum.+moves+step+sum.Needs.{step-After-row, sum-After-as-slice-2}
@@ -36,6 +36,12 @@ in-row t c = (
   subst (λ l. c .loop-i .i < length l) (c .row-many .ensures) (c .loop-i-test .taken),
 )
 
+pub step-loop-i-holds : need.step-loop-i-holds
+step-loop-i-holds t c = (
+  record { grows = grows-none _ (c .args .forms .now) (c .args .options .now) (c .args .used) (c .pre .table); holds = c .pre .pairs },
+  gathered-none _ _ (c .args .forms .now) (c .args .options .now) (c .args .used) (vec-items (c .args .sums .now)) (c .pre .row),
+)
+
 pub step-sum-requires : need.step-sum-requires
 step-sum-requires t c κs =
     let at = in-row t (need.at·step-sum-requires t c .After-row) in
@@ -50,13 +56,15 @@ pub step-returns-in-Err : need.step-returns-in-Err
 step-returns-in-Err t c =
     let at = in-row t (need.at·step-returns-in-Err t c .After-row) in
     step-fails (c .args .forms .now) (c .args .options .now) (c .args .used) (c .args .side) (c .args .x) (c .args .y) (c .pre .table) (c .pre .first) (c .pre .second)
-    _ _ _ _ (c .loop-i .i) (c .loop-i .inv .0) (at .1) _ (ap (λ l. getD l (c .loop-i .i) 0) (at .0)) _ _ _ (c .in-Err .ensures tt)
+    (c .loop-i .forms) (c .loop-i .options) (c .loop-i .grown) (c .loop-i .pairs) (c .loop-i .i) (c .loop-i .inv .0) (at .1) (getD (c .row .result .now) (c .loop-i .i) 0)
+    (ap (λ l. getD l (c .loop-i .i) 0) (at .0)) (c .sum .last .forms) (c .sum .last .options) (c .in-Err .e) (c .in-Err .ensures tt)
 
 pub step-loop-i-again : need.step-loop-i-again
 step-loop-i-again t c =
     let at = in-row t (need.at·step-loop-i-again t c .After-row) in
     step-more (c .args .forms .now) (c .args .options .now) (c .args .used) (c .args .side) (c .args .x) (c .args .y) (c .pre .table) (c .pre .first) (c .pre .second)
-    _ _ _ _ (c .loop-i .i) (c .loop-i .inv .0) (at .1) _ (ap (λ l. getD l (c .loop-i .i) 0) (at .0)) _ _ _ _ _ _ _ (c .loop-i .inv .1) (c .in-Ok .ensures tt) (c .in-Ok-insert .ensures tt)
+    (c .loop-i .forms) (c .loop-i .options) (c .loop-i .grown) (c .loop-i .pairs) (c .loop-i .i) (c .loop-i .inv .0) (at .1) (getD (c .row .result .now) (c .loop-i .i) 0)
+    (ap (λ l. getD l (c .loop-i .i) 0) (at .0)) (c .sum .last .forms) (c .sum .last .options) (c .sum .last .pairs) _ (vec-items (c .loop-i .sums)) _ (c .in-Ok .placed) (c .loop-i .inv .1) (c .in-Ok .ensures tt) (c .in-Ok-insert .ensures tt)
 
 pub step-returns : need.step-returns
 step-returns t c = (
