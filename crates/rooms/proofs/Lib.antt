@@ -7,3 +7,4 @@ pub mod Growing
 pub mod Walking
 pub mod Finding
 pub mod Answering
+pub mod After

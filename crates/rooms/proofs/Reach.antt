@@ -35,7 +35,7 @@ same-room b r s p x y hr hs =
     (λ q h. walk-keeps (Has s) (y .closed) (x .linked p q hr h) hs) (λ q h. walk-keeps (Has r) (x .closed) (y .linked p q hs h) hr)
 
 -- a room has a square with a free neighbour
-room-square : (b : Grid) (r : List ℕ) → Room b r → (p : ℕ) × (q : ℕ) × Has r p × (free b p ≡ true) × (free b q ≡ true) × Next b p q
+pub room-square : (b : Grid) (r : List ℕ) → Room b r → (p : ℕ) × (q : ℕ) × Has r p × (free b p ≡ true) × (free b q ≡ true) × Next b p q
 room-square b [] x = absurd (omega (arith, x .two))
 room-square b (p ∷ []) x = absurd (omega (arith, x .two))
 room-square b (p ∷ q ∷ rest) x = step (x .linked p q (has-here p (q ∷ rest)) (has-there p (q ∷ rest) q (has-here q rest))) (x .rising .0 .0)

@@ -4,3 +4,4 @@ pub mod Rooms
 pub mod Games
 pub mod Growth
 pub mod Values
+pub mod Laid
