@@ -1,0 +1,3 @@
+-- The definitions that the contracts of this crate speak of.
+pub mod Sums
+pub mod Reaching

@@ -1,0 +1,3 @@
+// Rooms beside each other: the sum of two forms, the row of rooms, and rooms that are alike.
+pub mod reach;
+pub mod sum;
