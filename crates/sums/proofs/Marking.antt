@@ -8,7 +8,7 @@ use native.Mathlib.Omega.{arith}
 use lib.ListN.{length, getD, set, take, replicate}
 use Rattle.std.specs.shelf.Lists.{All, Has}
 use Rattle.std.proofs.shelf.Lists.{getD-set-same, getD-set-other, getD-past, take-more, take-all, length-set}
-use Rattle.std.proofs.shelf.Elements.{has-push, has-push-cases, has-append-left, all-has}
+use Rattle.std.proofs.shelf.Elements.{has-push, has-push-cases, has-append-left, all-has, all-weaker}
 use Rattle.std.proofs.shelf.Tests.{cases-lt, cases-eq, both-ways}
 use Rattle.games.specs.Game.{Side, Game, options, In, Reached, itself, onward}
 use Rattle.games.proofs.Forms.{reached-trans}
@@ -95,6 +95,7 @@ listing-all marks k row h l = record {
 
 -- form t is marked, and from it marks have come down to k
 pub record Marking (fs : List Form) (os : List ℕ) (t k : ℕ) (marks : List Bool) : Type 0 where
+  pub low : k ≤ t + 1
   pub long : length marks ≡ t + 1
   pub start : Marked marks t
   pub right : (w : ℕ) → Marked marks w → (w ≤ t) × Reached (meaning fs os t) (meaning fs os w)
@@ -108,6 +109,7 @@ none-marked (suc n) (suc w) = none-marked n w
 module _ (fs : List Form) (os : List ℕ) (t : ℕ) where
   pub marking-start : (marks : List Bool) → marks ≡ replicate (t + 1) false → length marks ≡ t + 1 → Marking fs os t (t + 1) (set marks t true)
   marking-start marks e long = record {
+    low = omega arith;
     long = length-set marks t true ∙ long;
     start = getD-set-same marks t true false (omega arith);
     right = λ w m. let same = only w m in (omega arith, subst (λ x. Reached (meaning fs os t) (meaning fs os x)) (sym same) itself);
@@ -122,6 +124,7 @@ module _ (fs : List Form) (os : List ℕ) (t : ℕ) where
 
   pub marking-skip : (k : ℕ) (marks : List Bool) → 0 < k → getD marks (k - 1) false ≡ false → Marking fs os t k marks → Marking fs os t (k - 1) marks
   marking-skip k marks pos e m = record {
+    low = let x = m .low in omega arith;
     long = m .long;
     start = m .start;
     right = m .right;
@@ -132,6 +135,7 @@ module _ (fs : List Form) (os : List ℕ) (t : ℕ) where
   pub marking-more : Sound fs os → t < length fs → (k : ℕ) (marks ups downs : List Bool) (us ls : List ℕ) → 0 < k → getD marks (k - 1) false ≡ true →
       us ≡ rowOf fs os true (k - 1) → ls ≡ rowOf fs os false (k - 1) → Marks-row marks us ups → Marks-row ups ls downs → Marking fs os t k marks → Marking fs os t (k - 1) downs
   marking-more sound known k marks ups downs us ls pos e ue le a b m = record {
+    low = let x = m .low in omega arith;
     long = b .long ∙ a .long ∙ m .long;
     start = b .stays t (a .stays t (m .start));
     right = λ w y. ⊎-elim (λ z. ⊎-elim (m .right w) (λ h. new true w (subst (λ l. Has l w) ue h)) (a .only w z)) (λ h. new false w (subst (λ l. Has l w) le h)) (b .only w y);
@@ -161,6 +165,13 @@ module _ (fs : List Form) (os : List ℕ) (t : ℕ) where
       new s w h = 
           let r = m .right (k - 1) e in
           (let x = r .0 in let y = less s w h in omega arith, reached-trans (r .1) (onward s (all-has (λ x. In (meaning fs os x) (options s (meaning fs os (k - 1)))) (rowOf fs os s (k - 1)) w (in-row fs os sound s (k - 1) low) h) itself))
+
+  -- the options of the next form have marks of their own
+  pub options-low : Sound fs os → t < length fs → (k : ℕ) (marks : List Bool) → 0 < k → Marking fs os t k marks → (s : Side) (row : List ℕ) (n : ℕ) → row ≡ rowOf fs os s (k - 1) → n ≡ length marks → All (λ x. x < n) row
+  options-low sound known k marks pos m s row n e same =
+      let low = m .low in
+      let long = m .long in
+      subst (All (λ x. x < n)) (sym e) (all-weaker (λ x. x < k - 1) (λ x. x < n) (λ x h. omega arith) (rowOf fs os s (k - 1)) (sound .below s (k - 1) (omega arith)))
 
   -- all that is reached from a marked form is marked
   all-marked : Sound fs os → t < length fs → (marks : List Bool) → Marking fs os t 0 marks → {g h : Game} → Reached g h → (w : ℕ) → Marked marks w → meaning fs os w ≡ g → (x : ℕ) × Marked marks x × (meaning fs os x ≡ h)
