@@ -1,2 +1,4 @@
 -- Lemmas.
+pub mod Wider
 pub mod Marking
+pub mod Adding

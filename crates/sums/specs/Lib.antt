@@ -1,3 +1,4 @@
 -- The definitions that the contracts of this crate speak of.
 pub mod Sums
 pub mod Reaching
+pub mod Pairing

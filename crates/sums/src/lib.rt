@@ -1,3 +1,4 @@
 // Rooms beside each other: the sum of two forms, the row of rooms, and rooms that are alike.
+pub mod between;
 pub mod reach;
 pub mod sum;
