@@ -1,4 +1,6 @@
 -- Lemmas.
+pub mod Holding
 pub mod Wider
 pub mod Marking
 pub mod Adding
+pub mod Meeting

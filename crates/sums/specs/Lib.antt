@@ -2,3 +2,4 @@
 pub mod Sums
 pub mod Reaching
 pub mod Pairing
+pub mod Rows
