@@ -4,3 +4,4 @@ pub mod Wider
 pub mod Marking
 pub mod Adding
 pub mod Meeting
+pub mod Lining

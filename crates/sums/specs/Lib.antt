@@ -3,3 +3,4 @@ pub mod Sums
 pub mod Reaching
 pub mod Pairing
 pub mod Rows
+pub mod Counting

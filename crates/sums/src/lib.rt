@@ -2,4 +2,5 @@
 pub mod between;
 pub mod join;
 pub mod reach;
+pub mod row;
 pub mod sum;
