@@ -5,3 +5,5 @@ pub mod Marking
 pub mod Adding
 pub mod Meeting
 pub mod Lining
+pub mod Counted
+pub mod Rounds
