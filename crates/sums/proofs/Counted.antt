@@ -44,7 +44,7 @@ met-equal (at-game x y k r q p e) e′ = at-game x y k r q p (equal-trans e e′
 met-equal (further k u p c e m) e′ = further k u p c e (met-equal m e′)
 
 -- equal forms of a table have one number
-form-apart : (fs : List Form) (os : List ℕ) (n : ℕ) → Table fs os n → (j k : ℕ) → j < n → k < n → Equal (meaning (take n fs) os j) (meaning (take n fs) os k) → j ≡ k
+pub form-apart : (fs : List Form) (os : List ℕ) (n : ℕ) → Table fs os n → (j k : ℕ) → j < n → k < n → Equal (meaning (take n fs) os j) (meaning (take n fs) os k) → j ≡ k
 form-apart fs os n t j k h l e =
     let long = use-length fs os n t in
     same-number (take n fs) os (t .sound) j k (omega arith) (omega arith) e

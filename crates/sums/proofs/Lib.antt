@@ -7,3 +7,4 @@ pub mod Meeting
 pub mod Lining
 pub mod Counted
 pub mod Rounds
+pub mod Standing

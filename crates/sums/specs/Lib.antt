@@ -4,3 +4,4 @@ pub mod Reaching
 pub mod Pairing
 pub mod Rows
 pub mod Counting
+pub mod Likeness

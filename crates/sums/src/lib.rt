@@ -1,4 +1,5 @@
 // Rooms beside each other: the sum of two forms, the row of rooms, and rooms that are alike.
+pub mod alike;
 pub mod between;
 pub mod join;
 pub mod reach;
