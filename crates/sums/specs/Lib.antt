@@ -2,3 +2,8 @@
 pub mod Pairs
 pub mod Sums
 pub mod Steps
+pub mod Reaching
+pub mod Pairing
+pub mod Rows
+pub mod Counting
+pub mod Likeness

@@ -1,3 +1,8 @@
-// Forms beside each other: the form of their sum, and what is remembered of sums.
+// Rooms beside each other: the sum of two forms, the row of rooms, and rooms that are alike.
+pub mod alike;
+pub mod between;
+pub mod join;
 pub mod pairs;
+pub mod reach;
+pub mod row;
 pub mod sum;
