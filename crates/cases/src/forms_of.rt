@@ -10,7 +10,7 @@ use positions::room::RoomMoves;
 use rooms::find::all_rooms;
 use std::io;
 
-const BLANK: Form = Form {
+pub(crate) const BLANK: Form = Form {
     upright: 0,
     flat: 0,
     head: 0,

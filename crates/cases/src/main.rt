@@ -4,10 +4,12 @@ use forms_of::rooms_of_squares;
 use referee::follow::follow;
 use referee::outcome::OutcomeDisplay;
 use std::io;
+use tallies::counts;
 use verdict::judge::judge_file;
 use verdict::verdict::SaidDisplay;
 
 mod forms_of;
+mod tallies;
 
 // A board by its name, its width and height, and its squares, row after row.
 #[derive(Clone, Copy)]
@@ -182,5 +184,6 @@ fn main(rt: LibcRuntime) -> io::Result<()> {
     }
     refused(&rt)?;
     records(&rt)?;
-    rooms_of_squares(&rt)
+    rooms_of_squares(&rt)?;
+    counts(&rt)
 }

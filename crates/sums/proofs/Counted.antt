@@ -61,10 +61,14 @@ form-narrow : (fs : List Form) (os : List ℕ) (n : ℕ) → Table fs os n → (
 unfolding Not-wide
 form-narrow fs os n t k h f c e =
     not-wide 16 f (meaning (take n fs) os k) c (form-canonical fs os n t k h) e
-    (λ s. (length (rowOf (take n fs) os s k), (λ i. meaning (take n fs) os (getD (rowOf (take n fs) os s k) i 0)), few-options (take n fs) os s k (t .sound) low,
+    (λ s. (
+      length (rowOf (take n fs) os s k),
+      (λ i. meaning (take n fs) os (getD (rowOf (take n fs) os s k) i 0)),
+      few-options (take n fs) os s k (t .sound) low,
       λ x i.
-        let r = from-row (take n fs) os (t .sound) s k low x i in
-        (r .1 .0, r .1 .1, sym (r .2) ∙ ap (meaning (take n fs) os) (sym (r .1 .2 0)))))
+          let r = from-row (take n fs) os (t .sound) s k low x i in
+          (r .1 .0, r .1 .1, sym (r .2) ∙ ap (meaning (take n fs) os) (sym (r .1 .2 0))),
+    ))
   where
     low : k < length (take n fs)
     low = let long = use-length fs os n t in omega arith

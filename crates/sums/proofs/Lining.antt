@@ -114,12 +114,12 @@ module _ (b : Grid) (rs : List (List ℕ)) (fs : List Form) (os : List ℕ) (n :
       worth = λ i h.
           ⊎-elim
           (λ low.
-            subst (λ k. Equal (meaning (take v hs) qs k) (game-of b (getD (rs ++ r ∷ []) i []))) (sym (old i low))
-            (subst (λ q. Equal (meaning (take v hs) qs (getD owns i 0)) (game-of b q)) (sym (getD-append-left rs (r ∷ []) [] i low))
-              (subst (λ g. Equal g (game-of b (getD rs i []))) (sym (same (getD owns i 0) (before .own .known i low))) (before .own .worth i low))))
+          subst (λ k. Equal (meaning (take v hs) qs k) (game-of b (getD (rs ++ r ∷ []) i []))) (sym (old i low))
+          (subst (λ q. Equal (meaning (take v hs) qs (getD owns i 0)) (game-of b q)) (sym (getD-append-left rs (r ∷ []) [] i low))
+          (subst (λ g. Equal g (game-of b (getD rs i []))) (sym (same (getD owns i 0) (before .own .known i low))) (before .own .worth i low))))
           (λ high.
-            subst (λ k. Equal (meaning (take v hs) qs k) (game-of b (getD (rs ++ r ∷ []) i []))) (sym (new i h high))
-            (subst (λ q. Equal (meaning (take v hs) qs own) (game-of b q)) (sym (getD-push rs r [] i (last i h high))) (j .worth)))
+          subst (λ k. Equal (meaning (take v hs) qs k) (game-of b (getD (rs ++ r ∷ []) i []))) (sym (new i h high))
+          (subst (λ q. Equal (meaning (take v hs) qs own) (game-of b q)) (sym (getD-push rs r [] i (last i h high))) (j .worth)))
           (cases-lt i (length rs));
     }
       where

@@ -162,7 +162,7 @@ module _ (fs : List Form) (os : List ℕ) (t : ℕ) where
           (λ h. let x = less false w (subst (λ l. Has l w) le h) in absurd (omega arith)) (b .only w y)
 
       new : (s : Side) (w : ℕ) → Has (rowOf fs os s (k - 1)) w → (w ≤ t) × Reached (meaning fs os t) (meaning fs os w)
-      new s w h = 
+      new s w h =
           let r = m .right (k - 1) e in
           (let x = r .0 in let y = less s w h in omega arith, reached-trans (r .1) (onward s (all-has (λ x. In (meaning fs os x) (options s (meaning fs os (k - 1)))) (rowOf fs os s (k - 1)) w (in-row fs os sound s (k - 1) low) h) itself))
 

@@ -42,11 +42,11 @@ module _ (b : Grid) (rs : List (List ℕ)) (i : ℕ) (low : i < length rs) (fs :
   round-more hs qs own next v items same j =
       subst (λ l. In-row b l fs os n hs qs next items v) (sym next-rooms)
       (subst (λ l. In-row b (take i rs ++ q ∷ []) fs os n hs qs next l v) (sym same)
-        (row-more b (take i rs) fs os n gs ps sum owns u before q hs qs own next v (subst (λ d. Joined T d q gs ps u hs qs own next v) board j)))
+      (row-more b (take i rs) fs os n gs ps sum owns u before q hs qs own next v (subst (λ d. Joined T d q gs ps u hs qs own next v) board j)))
 
   pub round-stopped : (hs : List Form) (qs is : List ℕ) (e : Refusal) → Stopped (Between T (game-of c q)) gs ps u hs qs e → Row-answer b rs fs os n hs qs is (Err e)
   round-stopped hs qs is e s =
       row-refused b rs fs os n hs qs is e
       (stopped-as (Met empty (games-of b (take (i + 1) rs))) (Met empty (games-of b rs)) (met-all b (i + 1) rs) fs os n hs qs e
-        (subst (λ l. Stopped (Met empty (games-of b l)) fs os n hs qs e) (sym next-rooms)
-          (row-stopped b (take i rs) fs os n gs ps sum owns u before q hs qs e (subst (λ d. Stopped (Between T (game-of d q)) gs ps u hs qs e) board s))))
+      (subst (λ l. Stopped (Met empty (games-of b l)) fs os n hs qs e) (sym next-rooms)
+      (row-stopped b (take i rs) fs os n gs ps sum owns u before q hs qs e (subst (λ d. Stopped (Between T (game-of d q)) gs ps u hs qs e) board s))))

@@ -4,8 +4,8 @@ ghost use Rattle.std.specs.shelf.Lists.{All};
 ghost use Rattle.forms.specs.Links.{Table};
 ghost use Rattle.sums.specs.Pairing.{Beside-row, Beside-rows, Sums-answer};
 ghost use Rattle.sums.specs.Sums.{Holds-right};
-use canonical::canonical::Refusal;
 use crate::sum::sum;
+use canonical::canonical::Refusal;
 use forms::rows::Form;
 use std::alloc::Global;
 

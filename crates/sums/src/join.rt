@@ -7,10 +7,10 @@ ghost use Rattle.forms.specs.Meaning.{meaning};
 ghost use Rattle.positions.specs.Values.{roomSquares, GroundOf};
 ghost use Rattle.sums.specs.Rows.{Join-answer};
 ghost use Rattle.sums.specs.Sums.{Holds-right};
-use canonical::canonical::Refusal;
 use crate::between::all_sums;
 use crate::reach::reached;
 use crate::sum::sum;
+use canonical::canonical::Refusal;
 use forms::rows::Form;
 use positions::forms::room_forms;
 use positions::room::RoomMoves;
@@ -52,12 +52,24 @@ pub fn join(
     let Ok(reach) = reached(heap, &forms[..found.used as usize], options, t) else {
         return Err(Refusal::NoMemory);
     };
-    let grown = match all_sums(heap, forms, options, pairs, found.used, reach.as_slice(), found.all.as_slice()) {
+    let grown = match all_sums(
+        heap,
+        forms,
+        options,
+        pairs,
+        found.used,
+        reach.as_slice(),
+        found.all.as_slice(),
+    ) {
         Ok(grown) => grown,
         Err(e) => return Err(e),
     };
     match sum(heap, forms, options, pairs, grown, t, found.own) {
-        Ok(next) => Ok(RoomJoined { own: found.own, sum: next.form, used: next.used }),
+        Ok(next) => Ok(RoomJoined {
+            own: found.own,
+            sum: next.form,
+            used: next.used,
+        }),
         Err(e) => Err(e),
     }
 }

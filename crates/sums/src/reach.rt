@@ -12,7 +12,12 @@ use std::alloc::AllocError;
 use std::alloc::Global;
 
 // All forms that are reached from form t over options of either player, t itself among them, rising.
-pub fn reached(heap: Global, forms: &[Form], options: &[u16], t: u16) -> Result<Vec<u16>, AllocError>
+pub fn reached(
+    heap: Global,
+    forms: &[Form],
+    options: &[u16],
+    t: u16,
+) -> Result<Vec<u16>, AllocError>
     requires sound { ⌜ Sound (now forms) (now options) ⌝ }
     requires few { ⌜ length (now forms) ≤ 16384 ⌝ }
     requires known { ⌜ t < length (now forms) ⌝ }

@@ -4,9 +4,9 @@ ghost use Rattle.rooms.specs.Values.{roomsOf, Small-rooms};
 ghost use Rattle.forms.specs.Links.{Table};
 ghost use Rattle.sums.specs.Counting.{Row-answer};
 ghost use Rattle.sums.specs.Sums.{Holds-right};
+use crate::join::join;
 use board::board::Board;
 use canonical::canonical::Refusal;
-use crate::join::join;
 use forms::rows::Form;
 use positions::room::RoomMoves;
 use rooms::list::Rooms;
@@ -53,5 +53,9 @@ pub fn row_of_rooms(
         sum = joined.sum;
         grown = joined.used;
     }
-    Ok(RowForms { sum, owns, used: grown })
+    Ok(RowForms {
+        sum,
+        owns,
+        used: grown,
+    })
 }

@@ -37,6 +37,8 @@ loop-x-again c =
     _ _ _ (c .in-Ok .more) (c .in-Ok .ensures tt)
 
 pub returns : need.returns
-returns c =
-    (subst (λ row. Sums-all (Beside-rows (c .args .forms .now) (c .args .options .now) (c .args .used) row (c .args .right .now)) (c .args .forms .now) (c .args .options .now) (c .args .used) (c .loop-x .forms) (c .loop-x .options) (c .loop-x .grown))
-      (take-all (c .loop-x .x-index) (c .args .left .now) (omega arith)) (c .loop-x .inv .0), c .loop-x .inv .1)
+returns c = (
+  subst (λ row. Sums-all (Beside-rows (c .args .forms .now) (c .args .options .now) (c .args .used) row (c .args .right .now)) (c .args .forms .now) (c .args .options .now) (c .args .used) (c .loop-x .forms) (c .loop-x .options) (c .loop-x .grown))
+      (take-all (c .loop-x .x-index) (c .args .left .now) (omega arith)) (c .loop-x .inv .0),
+  c .loop-x .inv .1,
+)

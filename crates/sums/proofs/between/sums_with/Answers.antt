@@ -32,6 +32,8 @@ loop-y-again c =
     _ _ _ (c .in-Ok .placed) (c .in-Ok .ensures tt)
 
 pub returns : need.returns
-returns c =
-    (subst (λ row. Sums-all (Beside-row (c .args .forms .now) (c .args .options .now) (c .args .used) (c .args .x) row) (c .args .forms .now) (c .args .options .now) (c .args .used) (c .loop-y .forms) (c .loop-y .options) (c .loop-y .grown))
-      (take-all (c .loop-y .y-index) (c .args .row .now) (omega arith)) (c .loop-y .inv .0), c .loop-y .inv .1)
+returns c = (
+  subst (λ row. Sums-all (Beside-row (c .args .forms .now) (c .args .options .now) (c .args .used) (c .args .x) row) (c .args .forms .now) (c .args .options .now) (c .args .used) (c .loop-y .forms) (c .loop-y .options) (c .loop-y .grown))
+      (take-all (c .loop-y .y-index) (c .args .row .now) (omega arith)) (c .loop-y .inv .0),
+  c .loop-y .inv .1,
+)
