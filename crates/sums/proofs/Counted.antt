@@ -33,7 +33,7 @@ use Rattle.forms.proofs.Numbers.{same-number}
 use Rattle.canonical.specs.declared.canonical.Refusal.{Refusal}
 use Rattle.canonical.specs.declared.canonical.Refusal.the-variants.{Full, Wide as TooWide, NoMemory}
 use Rattle.positions.specs.Growing.{Grows, Overfull, Too-wide}
-use Rattle.sums.specs.Counting.{In-row, Row-formed, Row-full, Row-answer}
+use Rattle.sums.specs.Counting.{In-row, Row-formed, Row-full, Rooms-answer}
 use Rattle.sums.proofs.Meeting.{form-canonical}
 use Rattle.sums.proofs.Lining.{form-empty}
 
@@ -123,7 +123,7 @@ full-above gs fs os n hs qs full e m c =
     apart (suc i) zero h l q = absurd (full .apart i (omega arith) (equal-trans (form .2) (equal-sym q)))
     apart (suc i) (suc j) h l q = ap suc (form-apart hs qs (length fs) (full .grows .table) i j (omega arith) (omega arith) q)
 
-pub row-refused : (b : Grid) (rs : List (List ℕ)) (fs : List Form) (os : List ℕ) (n : ℕ) (hs : List Form) (qs is : List ℕ) (e : Refusal) → Stopped (Met empty (games-of b rs)) fs os n hs qs e → Row-answer b rs fs os n hs qs is (Err e)
+pub row-refused : (b : Grid) (rs : List (List ℕ)) (fs : List Form) (os : List ℕ) (n : ℕ) (hs : List Form) (qs is : List ℕ) (e : Refusal) → Stopped (Met empty (games-of b rs)) fs os n hs qs e → Rooms-answer b rs fs os n hs qs is (Err e)
 unfolding Member
 row-refused b rs fs os n hs qs is Full o = record { full = o; above = full-above (games-of b rs) fs os n hs qs o }
 row-refused b rs fs os n hs qs is TooWide w = (w .form, (w .canonical, w .kind), w .wide)

@@ -17,7 +17,7 @@ use Rattle.forms.specs.declared.rows.Form.{Form}
 use Rattle.forms.specs.Meaning.{meaning}
 use Rattle.canonical.specs.declared.canonical.Refusal.{Refusal}
 use Rattle.sums.specs.Rows.{game-of, Joined}
-use Rattle.sums.specs.Counting.{In-row, Row-answer}
+use Rattle.sums.specs.Counting.{In-row, Rooms-answer}
 use Rattle.sums.proofs.Wider.{stopped-as}
 use Rattle.sums.proofs.Lining.{row-more, row-stopped, met-all}
 use Rattle.sums.proofs.Counted.{row-refused}
@@ -44,7 +44,7 @@ module _ (b : Grid) (rs : List (List ℕ)) (i : ℕ) (low : i < length rs) (fs :
       (subst (λ l. In-row b (take i rs ++ q ∷ []) fs os n hs qs next l v) (sym same)
       (row-more b (take i rs) fs os n gs ps sum owns u before q hs qs own next v (subst (λ d. Joined T d q gs ps u hs qs own next v) board j)))
 
-  pub round-stopped : (hs : List Form) (qs is : List ℕ) (e : Refusal) → Stopped (Between T (game-of c q)) gs ps u hs qs e → Row-answer b rs fs os n hs qs is (Err e)
+  pub round-stopped : (hs : List Form) (qs is : List ℕ) (e : Refusal) → Stopped (Between T (game-of c q)) gs ps u hs qs e → Rooms-answer b rs fs os n hs qs is (Err e)
   round-stopped hs qs is e s =
       row-refused b rs fs os n hs qs is e
       (stopped-as (Met empty (games-of b (take (i + 1) rs))) (Met empty (games-of b rs)) (met-all b (i + 1) rs) fs os n hs qs e

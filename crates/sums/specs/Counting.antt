@@ -50,8 +50,8 @@ pub record Row-full (b : Grid) (rs : List (List ℕ)) (fs : List Form) (os : Lis
   pub above : n ≡ 1 → (m : ℕ) → Count (games-of b rs) m → length fs < m
 
 -- what the row of rooms answers
-abbrev pub Row-answer : Grid → List (List ℕ) → List Form → List ℕ → ℕ → List Form → List ℕ → List ℕ → Result RowForms Refusal → Type 0
-Row-answer b rs fs os n gs ps qs (Ok x) = Row-formed b rs fs os n gs ps (x .sum) (vec-items (x .owns)) (x .used) × Holds-right gs ps (x .used) qs
-Row-answer b rs fs os n gs ps qs (Err Full) = Row-full b rs fs os n gs ps
-Row-answer b rs fs os n gs ps qs (Err TooWide) = (f : Game) × Member (games-of b rs) f × Wide 16 f
-Row-answer b rs fs os n gs ps qs (Err NoMemory) = Unit {0}
+abbrev pub Rooms-answer : Grid → List (List ℕ) → List Form → List ℕ → ℕ → List Form → List ℕ → List ℕ → Result RowForms Refusal → Type 0
+Rooms-answer b rs fs os n gs ps qs (Ok x) = Row-formed b rs fs os n gs ps (x .sum) (vec-items (x .owns)) (x .used) × Holds-right gs ps (x .used) qs
+Rooms-answer b rs fs os n gs ps qs (Err Full) = Row-full b rs fs os n gs ps
+Rooms-answer b rs fs os n gs ps qs (Err TooWide) = (f : Game) × Member (games-of b rs) f × Wide 16 f
+Rooms-answer b rs fs os n gs ps qs (Err NoMemory) = Unit {0}

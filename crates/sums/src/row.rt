@@ -2,7 +2,7 @@
 ghost use Rattle.board.specs.Values.{gridOf};
 ghost use Rattle.rooms.specs.Values.{roomsOf, Small-rooms};
 ghost use Rattle.forms.specs.Links.{Table};
-ghost use Rattle.sums.specs.Counting.{Row-answer};
+ghost use Rattle.sums.specs.Counting.{Rooms-answer};
 ghost use Rattle.sums.specs.Sums.{Holds-right};
 use crate::join::join;
 use board::board::Board;
@@ -35,7 +35,7 @@ pub fn row_of_rooms(
     requires rooms { ⌜ Small-rooms (gridOf (now board)) (roomsOf (now rooms)) ⌝ }
     requires table { ⌜ Table (now forms) (now options) used ⌝ }
     requires pairs { ⌜ Holds-right (now forms) (now options) used (now pairs) ⌝ }
-    ensures { λ r. ⌜ Row-answer (gridOf (now (board .entry))) (roomsOf (now (rooms .entry))) (now (forms .entry)) (now (options .entry)) used (now (forms .exit)) (now (options .exit)) (now (pairs .exit)) r ⌝ }
+    ensures { λ r. ⌜ Rooms-answer (gridOf (now (board .entry))) (roomsOf (now (rooms .entry))) (now (forms .entry)) (now (options .entry)) used (now (forms .exit)) (now (options .exit)) (now (pairs .exit)) r ⌝ }
 {
     let mut sum = 0;
     let mut owns = Vec::new(heap);
