@@ -1,1 +1,2 @@
--- No lemmas of its own.
+-- Lemmas.
+pub mod Zeros

@@ -1,4 +1,5 @@
 // Boards and records with known answers, run through the library: what is printed is checked in.
+use agree::agreement;
 use board::refusal::RefusalDisplay;
 use forms_of::rooms_of_squares;
 use referee::follow::follow;
@@ -8,6 +9,7 @@ use tallies::counts;
 use verdict::judge::judge_file;
 use verdict::verdict::SaidDisplay;
 
+mod agree;
 mod forms_of;
 mod tallies;
 
@@ -185,5 +187,6 @@ fn main(rt: LibcRuntime) -> io::Result<()> {
     refused(&rt)?;
     records(&rt)?;
     rooms_of_squares(&rt)?;
-    counts(&rt)
+    counts(&rt)?;
+    agreement(&rt)
 }
