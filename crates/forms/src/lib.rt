@@ -1,5 +1,4 @@
-// Values of games as numbered forms in lent memory: their rows, their bounds, the test of order, look-up and growth.
-pub mod bounds;
+// Values of games as numbered forms in lent memory: their rows, the test of order, look-up and growth.
 pub mod order;
 pub mod rows;
 pub mod table;

@@ -1,6 +1,7 @@
 // The rules played out in every way: slow, small and right.
 ghost use Rattle.board.specs.Rules.{Says};
-ghost use Rattle.board.specs.Values.{side_of, grid_of, answer_of};
+ghost use Rattle.board.specs.Values.{side_of, grid_of};
+ghost use Rattle.search.specs.Answers.{answer_of};
 
 use board::board::Board;
 use board::side::Side;
