@@ -1,4 +1,6 @@
 // Boards of planks: the two sides, what may be laid, the board after a plank, reading a board from bytes, and the refusals.
+#![tactic(auto)]
+
 pub mod board;
 pub mod moves;
 pub mod neighbours;

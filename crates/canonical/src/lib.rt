@@ -1,4 +1,6 @@
 // From a game given as two rows of forms to the number of its canonical form.
+#![tactic(auto)]
+
 pub mod canonical;
 pub mod compare;
 pub mod keep;

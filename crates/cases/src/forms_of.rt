@@ -6,7 +6,7 @@ ghost use Rattle.positions.specs.Values.{GroundOf};
 use board::read::read_board;
 use forms::rows::Form;
 use forms::table::start;
-use positions::forms::room_forms;
+use positions::all_forms::room_forms;
 use positions::room::RoomMoves;
 use rooms::find::all_rooms;
 use std::io;

@@ -1,4 +1,6 @@
 // Boards and records with known answers, run through the library: what is printed is checked in.
+#![tactic(auto)]
+
 use agree::agreement;
 use forms_of::rooms_of_squares;
 use referee::follow::follow;
@@ -7,7 +9,7 @@ use tallies::counts;
 use verdict::judge::judge_file;
 
 mod agree;
-mod forms_of;
+mod all_forms_of;
 mod tallies;
 
 // A board by its name, its width and height, and its squares, row after row.

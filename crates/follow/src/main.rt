@@ -1,4 +1,6 @@
 // Follows the record in a file: who made the last move, or how the game stands.
+#![tactic(auto)]
+
 use input::given_file;
 use referee::follow::follow;
 use std::io;

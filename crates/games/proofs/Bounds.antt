@@ -3,7 +3,7 @@ use mathlib.Core.Path.{◌≡◌, sym, subst}
 use mathlib.Core.Bool.{true, false}
 use Prim.Native.Nat.{ℕ, ◌+◌, ◌≤◌, ◌<◌}
 use native.Mathlib.Omega.{arith}
-use Rattle.games.specs.Game.{Game, options, In}
+use Rattle.games.specs.Game.{Game}
 use Rattle.games.specs.Order.{Le, le, NotLe, up, down, Equal}
 use Rattle.games.specs.Numbers.{test, Beside, Bounded, Framed, Simplest, BoundsDecide, BoundsHot, BoundsCold}
 use Rattle.games.proofs.Compare.{le_trans}

@@ -1,4 +1,6 @@
 // Games as trees of options: play, order, sums, canonical forms and the count. Each function's contract is a theorem.
+#![tactic(auto)]
+
 ghost use Rattle.games.specs.Play.{Outcome};
 ghost use Rattle.games.specs.Order.{Order, Decided, TestRight, Computed};
 ghost use Rattle.games.specs.Numbers.{NumbersRise, BoundsDecide, BoundsHot, BoundsCold};

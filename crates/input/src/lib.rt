@@ -1,4 +1,6 @@
 // Reading the one file that a program is given, and telling that memory is wanting.
+#![tactic(auto)]
+
 ghost use Rattle.std.specs.Prelude.{◌≤◌, IfOk, vec_len, OnOk};
 
 use std::fs::File;

@@ -1,4 +1,6 @@
 // Judges the board in a file: its rooms, who makes the last move, and where to lay.
+#![tactic(auto)]
+
 use input::given_file;
 use std::io;
 use verdict::judge::{Judgement, judge_file};

@@ -13,7 +13,7 @@ use Rattle.canonical.specs.declared.canonical.Refusal.{Refusal}
 use Rattle.canonical.specs.declared.canonical.Refusal.TheVariants.{Full, Wide, NoMemory}
 use Rattle.positions.specs.Growing.{Grows, Overfull, IsTooWide}
 use Rattle.positions.specs.Reach.{Comes}
-use Rattle.positions.specs.declared.forms.RoomForms.{RoomForms}
+use Rattle.positions.specs.declared.all_forms.RoomForms.{RoomForms}
 
 -- the forms that are noted of the first k sets, rising
 pub record Listed (ps : List ℕ) (k : ℕ) (row : List ℕ) : Type 0 where

@@ -1,5 +1,7 @@
 // The forms of a room at all its positions.
+#![tactic(auto)]
+
 pub mod form;
-pub mod forms;
+pub mod all_forms;
 pub mod moves;
 pub mod room;

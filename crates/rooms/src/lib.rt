@@ -1,4 +1,6 @@
 // The rooms of a board: finding them, and what they are to the board.
+#![tactic(auto)]
+
 pub mod find;
 pub mod list;
 pub mod read;

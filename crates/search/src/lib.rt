@@ -1,4 +1,6 @@
 // The rules played out in every way: slow, small and right.
+#![tactic(auto)]
+
 ghost use Rattle.board.specs.Rules.{Says};
 ghost use Rattle.board.specs.Values.{side_of, grid_of};
 ghost use Rattle.search.specs.Answers.{answer_of};

@@ -12,7 +12,7 @@ use crate::reach::reached;
 use crate::sum::sum;
 use canonical::canonical::Refusal;
 use forms::rows::Form;
-use positions::forms::room_forms;
+use positions::all_forms::room_forms;
 use positions::room::RoomMoves;
 use std::alloc::Global;
 

@@ -1,4 +1,6 @@
 // The verdict: who makes the last move, and where to lay.
+#![tactic(auto)]
+
 pub mod choose;
 pub mod judge;
 pub mod lost;

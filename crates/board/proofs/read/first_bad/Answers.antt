@@ -6,7 +6,7 @@ pub returns-then-not-is-square : goal.returns-then-not-is-square
 returns-then-not-is-square c = (bad_here c.args.squares.now _ c.loop-i.invariant c.loop-i-test.true (sym c.if-not-is-square.ensures), c.loop-i-test.true)
 
 pub loop-i-preserved : goal.loop-i-preserved
-loop-i-preserved c = bad_further c.args.squares.now _ c.loop-i.invariant c.loop-i-test.true (sym c.if-not-is-square.ensures)
+loop-i-preserved c = bad_further c.args.squares.now _ c.loop-i.invariant c.loop-i-test.true (sym c.if-not-is_square.ensures)
 
 pub returns : goal.returns
 returns c = bad_nowhere c.args.squares.now _ c.loop-i.invariant (omega arith)

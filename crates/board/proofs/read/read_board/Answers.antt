@@ -17,4 +17,4 @@ pub returns : goal.returns
 returns c =
     let head = c.in-Ok.ensures in
     let size = asked_is c.args.bytes.now _ _ head.width head.height in
-    squares_told _ c.args.bytes.now head.passed (eq-eqb _ _ (omega arith)) c.read-squares.result c.read-squares.ensures
+    squares_told _ c.args.bytes.now head.passed (eq-eqb _ _ (omega arith)) c.read_squares.result c.read_squares.ensures

@@ -6,7 +6,7 @@ use Rattle.board.proofs.read.read_squares.Goals as goal
 
 pub cells-requires : goal.cells-requires
 cells-requires c =
-    let small = few c.args.head.width c.args.head.height c.requires.0.wide.1 c.requires.0.high.1 in
+    let small = few c.args.head.width c.args.head.height c.requires.headed.wide.1 c.requires.headed.high.1 in
     simp length-take (omega arith)
 
 pub invariant-of-board : goal.invariant-of-board
@@ -15,9 +15,9 @@ invariant-of-board c = (c.requires.0.wide, (c.requires.0.high, (few c.args.head.
 pub returns : goal.returns
 unfolding grid_of
 returns c =
-    let pre = c.requires.0 in
+    let pre = c.requires.headed in
     record {
-      passed = all_squares c.args.bytes.now c.args.head.width c.args.head.height pre.width pre.height c.in-default.ensures;
+      passed = all_squares c.args.bytes.now c.args.head.width c.args.head.height pre.width pre.height c.in_default.ensures;
       side = pre.side;
-      board = grid_read c.args.bytes.now c.args.head.width c.args.head.height pre.width pre.height c.cells.result c.requires.1 c.cells.ensures;
+      board = grid_read c.args.bytes.now c.args.head.width c.args.head.height pre.width pre.height c.cells.result c.requires.bytes_in_bounds c.cells.ensures;
     }

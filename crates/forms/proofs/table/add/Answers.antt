@@ -23,15 +23,15 @@ returns c =
     let t = c.requires.table in
     let n = c.args.used in
     let os = c.args.options.now in
-    let at = c.write-row.new.place in
+    let at = c.write_row.new.place in
     let us = c.args.upright.now in
     let ls = c.args.flat.now in
     let room : 32 * n + 32 ≤ length os = let h = t.space in omega (arith, c.requires.room) in
-    let long : length at ≡ 32 = c.write-row.auto.place ∙ part_long n os room in
+    let long : length at ≡ 32 = c.write_row.auto.place ∙ part_long n os room in
     let ps = put_mid (32 * n) (32 * n + 32 - 32 * n) os at in
     let same : length ps ≡ length os = length_put n os at room long in
     let before = before_put n os at room long in
-    let written = row_put n os at room long us ls (c.requires.fresh.few true) (c.requires.fresh.few false) c.write-row.ensures.upright c.write-row.ensures.flat in
+    let written = row_put n os at room long us ls (c.requires.fresh.few true) (c.requires.fresh.few false) c.write_row.ensures.upright c.write_row.ensures.flat in
     record {
       table = table_after c.args.forms.now os n us ls t c.requires.room c.requires.fresh c.bucket-bucket.result c.bucket-bucket.ensures.bound c.bucket-bucket.ensures.value ps same before written;
       kept = kept_after c.args.forms.now os n us ls t c.requires.room c.requires.fresh c.bucket-bucket.result c.bucket-bucket.ensures.bound c.bucket-bucket.ensures.value ps same before written;

@@ -14,7 +14,7 @@ loop-link-preserved c =
     let low : c.loop-link.link - 1 < c.args.used = omega (arith, c.loop-link.invariant.0) in (
       omega (arith, c.requires.table.falls (c.loop-link.link - 1) low),
       past c.args.forms.now c.args.options.now c.args.used c.requires.table c.args.upright.now c.args.flat.now c.loop-link.link c.loop-link.invariant.1
-          (λ is. both_ways c.is-row.result c.if-is-row.false (c.is-row.ensures.1 is)),
+          (λ is. both_ways c.is_row.result c.if-is_row.false (c.is_row.ensures.1 is)),
     )
 
 pub returns : goal.returns

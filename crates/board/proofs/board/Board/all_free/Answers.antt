@@ -9,7 +9,7 @@ returns-then-not-is-free c =
 
 pub loop-q-preserved : goal.loop-q-preserved
 loop-q-preserved c =
-    walk_goes (grid_of c.args.self.now) c.args.squares.now _ c.loop-q.invariant c.loop-q-test.true c.if-not-is-free.ensures
+    walk_goes (grid_of c.args.self.now) c.args.squares.now _ c.loop-q.invariant c.loop-q-test.true c.if-not-is_free.ensures
 
 pub returns : goal.returns
 returns c = walk_ends (grid_of c.args.self.now) c.args.squares.now _ c.loop-q.invariant c.loop-q-test.false

@@ -16,6 +16,6 @@ returns c =
     let b = grid_of c.args.self.now in
     let s = side_of c.args.side in
     let covered = c.in-Some.ensures in (
-      may_fit b s c.args.place c.in-Some.squares covered ∙ sym c.if-not-all-free.ensures,
+      may_fit b s c.args.place c.in-Some.squares covered ∙ sym c.if-not-all_free.ensures,
       c.without.ensures ∙ laid_without b s c.args.place c.in-Some.squares covered.1,
     )

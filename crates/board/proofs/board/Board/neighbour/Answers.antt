@@ -12,4 +12,4 @@ returns-then-not-is-free c =
 
 pub returns : goal.returns
 returns c =
-    neighbour_free (grid_of c.args.self.now) c.args.square c.args.way c.in-Some.next c.in-Some.ensures (sym c.if-not-is-free.ensures)
+    neighbour_free (grid_of c.args.self.now) c.args.square c.args.way c.in-Some.next c.in-Some.ensures (sym c.if-not-is_free.ensures)

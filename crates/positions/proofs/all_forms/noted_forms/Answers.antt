@@ -1,7 +1,7 @@
 use Rattle.std.proofs.Common.{◌≡◌, length, vec_items, sym, subst, arith}
 use Rattle.positions.specs.Answers.{Listed}
 use Rattle.positions.proofs.Law.{listed_none, listed_skip, listed_more}
-use Rattle.positions.proofs.forms.noted_forms.Goals as goal
+use Rattle.positions.proofs.all_forms.noted_forms.Goals as goal
 
 pub loop-noted-init : goal.loop-noted-init
 loop-noted-init c = subst (Listed c.args.sets.now 0) (sym c.new-all.ensures.items) (listed_none c.args.sets.now)

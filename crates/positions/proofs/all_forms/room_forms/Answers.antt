@@ -3,7 +3,7 @@ use Rattle.positions.specs.Forming.{LeadsTo}
 use Rattle.positions.specs.Reach.{stay}
 use Rattle.positions.proofs.Law.{forgets, formed_room, not_formed, sets_long}
 use Rattle.positions.proofs.Turns.{noted_fits}
-use Rattle.positions.proofs.forms.room_forms.Goals as goal
+use Rattle.positions.proofs.all_forms.room_forms.Goals as goal
 
 pub form-requires : goal.form-requires
 form-requires c = record {
