@@ -1,8 +1,8 @@
 -- The list of checks, in parts: which refusal comes first, and what is read where all are passed.
-use Rattle.std.proofs.Common.{◌≡◌, ℕ, Bool, true, false, List, [], ◌∷◌, ◌++◌, length, Some, None, Ok, Err, Option, Result, sym, refl, ap, ◌∙◌, arith, MatchResult}
+use Rattle.std.proofs.Common.{◌≡◌, ℕ, Bool, true, false, List, [], ◌∷◌, ◌++◌, length, Some, None, Ok, Err, Result, sym, refl, ap, ◌∙◌, arith, MatchResult}
 use Rattle.board.specs.Grid.{pick}
 use Rattle.board.specs.Values.{side_of, grid_of}
-use Rattle.board.specs.Reading.{Check, or_refuse, first_failed, head_checks, squares_check, Read, refused, holds, outcome, side_in, grid_in, file_read, told, Set}
+use Rattle.board.specs.Reading.{Check, or_refuse, first_failed, head_checks, squares_check, refused, holds, outcome, side_in, grid_in, file_read, told, Set}
 use Rattle.board.specs.declared.read.Setup.{Setup}
 use Rattle.board.specs.declared.refusal.Refusal.{Refusal}
 use Rattle.board.specs.declared.refusal.Refusal.TheVariants.{Length}

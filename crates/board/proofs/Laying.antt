@@ -1,5 +1,5 @@
 -- Whether a side may move, from what the move covers; and what a move leaves.
-use Rattle.std.proofs.Common.{◌≡◌, ℕ, Bool, true, false, ◌&&◌, List, length, sym, refl, ap, ◌∙◌}
+use Rattle.std.proofs.Common.{◌≡◌, ℕ, true, false, ◌&&◌, List, length, sym, ap, ◌∙◌}
 use Rattle.board.specs.Grid.{Grid, Side}
 use Rattle.board.specs.Moves.{covers, fits, each_free, without, may, laid}
 

@@ -1,7 +1,7 @@
 -- A move leaves fewer free squares; so every board is won or lost, never both, and one answer fits.
-use Rattle.std.proofs.Common.{◌≡◌, ℕ, zero, suc, ◌+◌, ◌<◌, ◌≤◌, Bool, true, false, not, ◌&&◌, ◌||◌, ltb, ◌⊎◌, List, [], ◌∷◌, length, get_or, set, sym, refl, ap, ◌∙◌, subst, inl, inr, ⊎_elim, le_trans, le_refl, arith}
+use Rattle.std.proofs.Common.{◌≡◌, ℕ, zero, suc, ◌<◌, ◌≤◌, Bool, true, false, not, ◌&&◌, ◌||◌, List, [], ◌∷◌, length, get_or, set, sym, refl, ap, ◌∙◌, inl, inr, ⊎_elim, arith}
 use Rattle.std.proofs.lemmas.List.{get_or_past}
-use Rattle.std.proofs.lemmas.Bool.{and_parts, and_from, or_parts, or_cases, cases_Bool, cases_lt, not-true, not-false, not_from_false, both_ways, cases_order}
+use Rattle.std.proofs.lemmas.Bool.{and_parts, or_parts, or_cases, cases_Bool, cases_lt, not-true, not-false, both_ways, cases_order}
 use Rattle.board.specs.Grid.{Grid, Side, other, pick, free, free_count}
 use Rattle.board.specs.Moves.{fits, each_free, taken, may, laid}
 use Rattle.board.specs.Rules.{Wins, by, Loses, whatever, Answer, lay, lost, Good, Says, OneAnswer, OneOutcome}

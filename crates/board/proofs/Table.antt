@@ -3,7 +3,7 @@ use Rattle.std.proofs.Common.{◌≡◌, Bool, true, false, ◌&&◌, List, [], 
 use Rattle.std.proofs.lemmas.Bool.{and_parts}
 use Rattle.board.specs.Grid.{free_count}
 use Rattle.board.specs.Moves.{may, laid}
-use Rattle.board.specs.Known.{Entry, written, table, Right, AllRight, KnownBoards}
+use Rattle.board.specs.Known.{Entry, written, table, AllRight, KnownBoards}
 use Rattle.board.proofs.Outcomes.{some_below, fitting, fits_says}
 
 abbrev right : Entry → Bool

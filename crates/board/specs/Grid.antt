@@ -1,5 +1,5 @@
 -- The board of the rules: how wide it is, and which of its squares are free. No limits here.
-use Rattle.std.specs.Prelude.{◌≡◌, ℕ, ◌+◌, ◌%◌, ◌<◌, Bool, true, false, not, ◌⊎◌, List, [], ◌∷◌, ◌≢◌, slice_index_or}
+use Rattle.std.specs.Prelude.{◌≡◌, ℕ, ◌+◌, ◌%◌, ◌<◌, Bool, true, false, ◌⊎◌, List, [], ◌∷◌, ◌≢◌, slice_index_or}
 pub use Rattle.games.specs.Game.{Side, other}
 
 -- squares in reading order; true is a free square

@@ -1,5 +1,5 @@
 -- A move is a set of squares: what it covers, when it may be made, and the board after it.
-use Rattle.std.specs.Prelude.{ℕ, ◌+◌, ◌%◌, Bool, true, false, ◌&&◌, List, [], ◌∷◌, length, set, nat_lt, slice_set}
+use Rattle.std.specs.Prelude.{ℕ, ◌+◌, ◌%◌, Bool, true, false, ◌&&◌, List, [], ◌∷◌, length, nat_lt, slice_set}
 use Rattle.board.specs.Grid.{Grid, Side, free}
 
 -- the squares that a side's move at p covers, on a board of width w with n squares: upright, p and the one below it; flat, p and the one to its right

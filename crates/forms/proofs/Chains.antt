@@ -1,12 +1,11 @@
 -- Looking a row up along the links of its bucket.
-use Rattle.std.proofs.Common.{◌≡◌, ℕ, suc, ◌+◌, ◌-◌, ◌*◌, ◌%◌, ◌<◌, ◌≤◌, Bool, true, false, List, [], ◌∷◌, length, get_or, take, drop, Decides, sym, refl, ap, ◌∙◌, subst, arith}
+use Rattle.std.proofs.Common.{◌≡◌, ℕ, suc, ◌+◌, ◌-◌, ◌*◌, ◌%◌, ◌<◌, ◌≤◌, Bool, true, false, List, length, get_or, take, drop, Decides, sym, ◌∙◌, subst, arith}
 use Rattle.std.proofs.lemmas.List.{at_drop_more, at_drop_all, length-take-le}
 use Rattle.std.proofs.lemmas.Bool.{both_ways}
-use Rattle.games.specs.Game.{Side}
 use Rattle.forms.specs.declared.rows.Form.{Form}
 use Rattle.forms.specs.Rows.{row_of, row_for}
 use Rattle.forms.specs.Links.{mixed, bucket_of, head_of, next_at, Leads, here, on, Table}
-use Rattle.forms.specs.Growth.{IsRow, Absent}
+use Rattle.forms.specs.Growth.{IsRow}
 
 -- one entry more is mixed in
 pub mixed_more : (start : ℕ) (xs : List ℕ) (i sum : ℕ) → i < length xs → mixed sum (drop i xs) ≡ mixed start xs →

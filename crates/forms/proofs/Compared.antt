@@ -1,9 +1,9 @@
 -- Two forms compared by the options that their rows name.
-use Rattle.std.proofs.Common.{◌≡◌, ℕ, ◌+◌, ◌<◌, ◌≤◌, true, false, List, length, get_or, take, sym, subst, arith}
+use Rattle.std.proofs.Common.{◌≡◌, ℕ, ◌<◌, ◌≤◌, true, false, List, length, get_or, take, sym, subst}
 use Rattle.std.specs.List.{AllByRecursion as All}
 use Rattle.std.proofs.lemmas.List.{take_all}
 use Rattle.std.proofs.ByRecursion.{All-get_or}
-use Rattle.games.specs.Game.{Side, Game, options, In}
+use Rattle.games.specs.Game.{Side, options, In}
 use Rattle.games.specs.Order.{Le, le, NotLe, up, down}
 use Rattle.forms.specs.declared.rows.Form.{Form}
 use Rattle.forms.specs.Rows.{row_of}

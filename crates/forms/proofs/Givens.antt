@@ -1,10 +1,10 @@
 -- The game that is given by two rows of forms.
-use Rattle.std.proofs.Common.{◌≡◌, ℕ, ◌<◌, true, false, List, sym, refl, ap, ◌∙◌, subst}
-use Rattle.std.specs.List.{ContainsAt as Has, AllByRecursion as All}
+use Rattle.std.proofs.Common.{◌≡◌, ℕ, true, false, List, sym, refl, subst}
+use Rattle.std.specs.List.{ContainsAt as Has}
 use Rattle.std.proofs.ByRecursion.{all-has}
-use Rattle.games.specs.Game.{Side, Game, Games, options, In}
+use Rattle.games.specs.Game.{Side, Game, options, In}
 use Rattle.games.specs.Order.{Equal}
-use Rattle.games.proofs.Sides.{equal_sym, equal-options}
+use Rattle.games.proofs.Sides.{equal-options}
 use Rattle.forms.specs.declared.rows.Form.{Form}
 use Rattle.forms.specs.Rows.{row_for}
 use Rattle.forms.specs.Meaning.{listed, meaning, given}

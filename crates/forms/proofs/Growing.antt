@@ -3,7 +3,7 @@ use Rattle.std.proofs.Common.{◌≡◌, ℕ, suc, ◌+◌, ◌*◌, ◌<◌, �
 use Rattle.std.specs.List.{AllByRecursion as All}
 use Rattle.std.proofs.ByRecursion.{All-weaker}
 use Rattle.std.proofs.lemmas.Bool.{cases_lt}
-use Rattle.games.specs.Game.{Side, Game, game}
+use Rattle.games.specs.Game.{Side, game}
 use Rattle.games.specs.Canonical.{Canonical}
 use Rattle.forms.specs.declared.rows.Form.{Form}
 use Rattle.forms.specs.Rows.{blank, many, row_of, row_for, Rising}

@@ -1,11 +1,11 @@
 -- The meaning of a form is its rows, and depends on nothing else.
-use Rattle.std.proofs.Common.{◌≡◌, ℕ, zero, suc, ◌<◌, ◌≤◌, true, false, List, [], ◌∷◌, length, get_or, sym, refl, ap, ◌∙◌, subst, arith}
+use Rattle.std.proofs.Common.{◌≡◌, ℕ, zero, suc, ◌<◌, true, false, List, [], ◌∷◌, length, sym, refl, ap, ◌∙◌, subst, arith}
 use Rattle.std.specs.List.{ContainsAt as Has, AllByRecursion as All}
-use Rattle.std.proofs.ByRecursion.{All-weaker, All-get_or, all-has}
-use Rattle.games.specs.Game.{Side, Game, game, Games, none, more, options, In, here, there, empty}
+use Rattle.std.proofs.ByRecursion.{All-weaker}
+use Rattle.games.specs.Game.{Side, Game, game, more, options, In, here, there}
 use Rattle.forms.specs.declared.rows.Form.{Form}
 use Rattle.forms.specs.Rows.{row_of}
-use Rattle.forms.specs.Meaning.{listed, meant, meaning, given}
+use Rattle.forms.specs.Meaning.{listed, meant, meaning}
 use Rattle.forms.specs.Soundness.{Sound}
 use Rattle.forms.proofs.Risings.{has_here, has_there}
 

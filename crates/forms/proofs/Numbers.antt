@@ -1,8 +1,8 @@
 -- In sound rows a form is equal to itself alone.
-use Rattle.std.proofs.Common.{◌≡◌, ℕ, zero, suc, ◌+◌, ◌<◌, ◌≤◌, true, false, List, [], ◌∷◌, length, sym, refl, ap, ◌∙◌, subst, arith}
+use Rattle.std.proofs.Common.{◌≡◌, ℕ, zero, suc, ◌+◌, ◌<◌, true, false, List, [], ◌∷◌, length, sym, refl, subst, arith}
 use Rattle.std.specs.List.{ContainsAt as Has, AllByRecursion as All}
 use Rattle.std.proofs.ByRecursion.{all-has}
-use Rattle.games.specs.Game.{Side, Game, game, Games, options, In, empty}
+use Rattle.games.specs.Game.{Side, game, options, In, empty}
 use Rattle.games.specs.Order.{Equal}
 use Rattle.games.proofs.Sides.{equal_sym, equal_refl}
 use Rattle.games.proofs.Forms.{matched}
@@ -12,7 +12,7 @@ use Rattle.forms.specs.Meaning.{listed, meaning}
 use Rattle.forms.specs.Soundness.{Sound}
 use Rattle.forms.specs.Laws.{OneNumber, FirstEmpty}
 use Rattle.forms.proofs.Risings.{rising_same}
-use Rattle.forms.proofs.Meanings.{meaning_rows, in_row, from_row}
+use Rattle.forms.proofs.Meanings.{in_row, from_row}
 
 module _ (fs : List Form) (os : List ℕ) (sound : Sound fs os) where
   -- equal forms have the same numbers in their rows, if this is known of lower forms

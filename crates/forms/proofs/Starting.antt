@@ -1,9 +1,9 @@
 -- A table of one form, the empty game.
-use Rattle.std.proofs.Common.{◌≡◌, ℕ, suc, ◌+◌, ◌*◌, ◌<◌, ◌≤◌, true, false, ◌⊎◌, List, [], ◌∷◌, length, get_or, take, drop, set, sym, refl, ap, ◌∙◌, subst, inl, inr, arith}
+use Rattle.std.proofs.Common.{◌≡◌, ℕ, ◌*◌, ◌<◌, ◌≤◌, true, false, List, [], length, get_or, take, drop, sym, refl, ap, ◌∙◌, subst, inl, inr, arith}
 use Rattle.std.specs.List.{AllByRecursion as All}
 use Rattle.std.proofs.lemmas.List.{get_or-set_same, get_or-set_other, get_or-take, length-set, length-take-le}
 use Rattle.std.proofs.lemmas.Bool.{cases_eq}
-use Rattle.games.specs.Game.{Side, other, Game, game, options, In, empty}
+use Rattle.games.specs.Game.{Side, other, game, options, In, empty}
 use Rattle.games.specs.Order.{Worse, NotWorse}
 use Rattle.games.specs.Canonical.{Canonical, canonical}
 use Rattle.forms.specs.declared.rows.Form.{Form}

@@ -1,7 +1,7 @@
 -- Parts of the lent options before and after a row is written.
-use Rattle.std.proofs.Common.{◌≡◌, ℕ, ◌+◌, ◌-◌, ◌*◌, ◌<◌, ◌≤◌, true, false, List, [], ◌∷◌, ◌++◌, length, get_or, take, drop, sym, refl, ap, ◌∙◌, subst, arith}
+use Rattle.std.proofs.Common.{◌≡◌, ℕ, ◌+◌, ◌-◌, ◌*◌, ◌≤◌, true, false, List, ◌++◌, length, take, drop, sym, ap, ◌∙◌, arith}
 use borrow.Rule.Slice.PartMut.{put_mid}
-use Rattle.std.proofs.lemmas.List.{take-take, drop-take, drop-drop, take_at, take_all, length-take, length-drop, length-append}
+use Rattle.std.proofs.lemmas.List.{take-take, drop-take, drop-drop, take_at, length-take, length-drop, length-append}
 use Rattle.std.proofs.lemmas.Slice.{take-put_mid_below, between-put_mid}
 use Rattle.games.specs.Game.{Side}
 use Rattle.forms.specs.Rows.{place, row_for}

@@ -1,6 +1,6 @@
 -- Laws of sound rows.
 use Rattle.std.specs.Prelude.{◌≡◌, ℕ, ◌<◌, ◌↔◌, List, length}
-use Rattle.games.specs.Game.{Game, empty}
+use Rattle.games.specs.Game.{empty}
 use Rattle.games.specs.Order.{Equal}
 use Rattle.forms.specs.declared.rows.Form.{Form}
 use Rattle.forms.specs.Meaning.{meaning}

@@ -1,5 +1,5 @@
 -- Where the rows of forms lie in the lent memory, and rows that rise.
-use Rattle.std.specs.Prelude.{ℕ, ◌+◌, ◌*◌, ◌<◌, true, false, List, [], ◌∷◌, length, take, drop, slice_index_or}
+use Rattle.std.specs.Prelude.{ℕ, ◌+◌, ◌*◌, ◌<◌, true, false, List, [], ◌∷◌, take, drop, slice_index_or}
 use Rattle.std.specs.List.{AllByRecursion as All}
 use Rattle.games.specs.Game.{Side}
 use Rattle.forms.specs.declared.rows.Form.{Form}

@@ -1,4 +1,4 @@
-use Rattle.std.proofs.Common.{false, ◌∙◌, arith}
+use Rattle.std.proofs.Common.{◌∙◌, arith}
 use Rattle.std.proofs.lemmas.List.{length-set}
 use Rattle.board.proofs.Squares.{cells_more, cells_all}
 use Rattle.board.proofs.read.cells.Goals as goal

@@ -1,4 +1,4 @@
-use Rattle.std.proofs.Common.{sym, ◌∙◌, arith}
+use Rattle.std.proofs.Common.{arith}
 use Rattle.std.proofs.lemmas.Bool.{lt-leb, le-leb}
 use Rattle.board.proofs.Checks.{head_refused, length_refused, squares_told}
 use Rattle.board.proofs.Squares.{asked_is}

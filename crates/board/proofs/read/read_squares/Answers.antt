@@ -1,4 +1,4 @@
-use Rattle.std.proofs.Common.{◌+◌, ◌-◌, ◌*◌, drop, arith}
+use Rattle.std.proofs.Common.{arith}
 use Rattle.std.proofs.lemmas.List.{length-take}
 use Rattle.board.specs.Values.{grid_of}
 use Rattle.board.proofs.Squares.{few, all_squares, grid_read}
@@ -9,8 +9,8 @@ cells-requires c =
     let small = few c.args.head.width c.args.head.height c.requires.headed.wide.1 c.requires.headed.high.1 in
     simp length-take (omega arith)
 
-pub invariant-of-board : goal.invariant-of-board
-invariant-of-board c = (c.requires.0.wide, (c.requires.0.high, (few c.args.head.width c.args.head.height c.requires.0.wide.1 c.requires.0.high.1, tt)))
+pub invariant_of-board : goal.invariant_of-board
+invariant_of-board c = record { wide = c.requires.headed.wide; high = c.requires.headed.high; few = few c.args.head.width c.args.head.height c.requires.headed.wide.1 c.requires.headed.high.1 }
 
 pub returns : goal.returns
 unfolding grid_of

@@ -1,71 +1,71 @@
 use Rattle.std.proofs.Common.{◌<◌, true, false, length, get_or, arith}
 use Rattle.std.proofs.ByRecursion.{All-more}
-use Rattle.games.specs.Order.{Le, NotLe}
+use Rattle.games.specs.Order.{NotLe}
 use Rattle.forms.specs.Meaning.{meaning}
 use Rattle.forms.proofs.Places.{option_below}
 use Rattle.forms.proofs.Compared.{walked, not_by_upright, not_by_flat, by_all}
 use Rattle.forms.proofs.order.+at_most_not_at_most.Goals as goal
 
-pub at-most-not-at-most-requires : goal.at-most-not-at-most-requires
-at-most-not-at-most-requires t c =
+pub at_most-not_at_most-requires : goal.at_most-not_at_most-requires
+at_most-not_at_most-requires t c =
     let low = option_below c.args.forms.now c.args.options.now true c.args.g c.requires.sound c.requires.first _ c.row-uprights.ensures c.loop-x.x-index c.loop-x-test.true in
     let known : get_or c.row-uprights.result.now c.loop-x.x-index 0 < length c.args.forms.now = omega arith in
     (omega (arith, c.decreases), (c.requires.sound, (c.requires.second, known)))
 
-pub at-most-not-at-most-requires-in-loop-y : goal.at-most-not-at-most-requires-in-loop-y
-at-most-not-at-most-requires-in-loop-y t c =
+pub at_most-not_at_most-requires-in-loop-y : goal.at_most-not_at_most-requires-in-loop-y
+at_most-not_at_most-requires-in-loop-y t c =
     let low = option_below c.args.forms.now c.args.options.now false c.args.h c.requires.sound c.requires.second _ c.row-flats.ensures c.loop-y.y-index c.loop-y-test.true in
     let known : get_or c.row-flats.result.now c.loop-y.y-index 0 < length c.args.forms.now = omega arith in
     (omega (arith, c.decreases), (c.requires.sound, (known, c.requires.first)))
 
-pub at-most-returns-then-not-not-at-most : goal.at-most-returns-then-not-not-at-most
-at-most-returns-then-not-not-at-most t c = not_by_upright c.args.forms.now c.args.options.now c.requires.sound c.args.g c.args.h c.requires.first c.requires.second _ c.row-uprights.ensures c.loop-x.x-index c.loop-x-test.true c.if-not-not-at-most.ensures
+pub at_most-returns-then-not-not_at_most : goal.at_most-returns-then-not-not_at_most
+at_most-returns-then-not-not_at_most t c = not_by_upright c.args.forms.now c.args.options.now c.requires.sound c.args.g c.args.h c.requires.first c.requires.second _ c.row-uprights.ensures c.loop-x.x-index c.loop-x-test.true c.if-not-not_at_most.ensures
 
-pub at-most-returns-then-not-not-at-most-2 : goal.at-most-returns-then-not-not-at-most-2
-at-most-returns-then-not-not-at-most-2 t c = not_by_flat c.args.forms.now c.args.options.now c.requires.sound c.args.g c.args.h c.requires.first c.requires.second _ c.row-flats.ensures c.loop-y.y-index c.loop-y-test.true c.if-not-not-at-most-2.ensures
+pub at_most-returns-then-not-not_at_most-2 : goal.at_most-returns-then-not-not_at_most-2
+at_most-returns-then-not-not_at_most-2 t c = not_by_flat c.args.forms.now c.args.options.now c.requires.sound c.args.g c.args.h c.requires.first c.requires.second _ c.row-flats.ensures c.loop-y.y-index c.loop-y-test.true c.if-not-not_at_most-2.ensures
 
-pub at-most-loop-x-preserved : goal.at-most-loop-x-preserved
-at-most-loop-x-preserved t c =
-    All-more (λ x. NotLe (meaning c.args.forms.now c.args.options.now c.args.h) (meaning c.args.forms.now c.args.options.now x)) c.row-uprights.result.now c.loop-x.x-index 0 c.loop-x-test.true c.loop-x.invariant c.if-not-not-at-most.ensures
+pub at_most-loop-x-preserved : goal.at_most-loop-x-preserved
+at_most-loop-x-preserved t c =
+    All-more (λ x. NotLe (meaning c.args.forms.now c.args.options.now c.args.h) (meaning c.args.forms.now c.args.options.now x)) c.row-uprights.result.now c.loop-x.x-index 0 c.loop-x-test.true c.loop-x.invariant c.if-not-not_at_most.ensures
 
-pub at-most-loop-y-preserved : goal.at-most-loop-y-preserved
-at-most-loop-y-preserved t c =
-    All-more (λ y. NotLe (meaning c.args.forms.now c.args.options.now y) (meaning c.args.forms.now c.args.options.now c.args.g)) c.row-flats.result.now c.loop-y.y-index 0 c.loop-y-test.true c.loop-y.invariant c.if-not-not-at-most-2.ensures
+pub at_most-loop-y-preserved : goal.at_most-loop-y-preserved
+at_most-loop-y-preserved t c =
+    All-more (λ y. NotLe (meaning c.args.forms.now c.args.options.now y) (meaning c.args.forms.now c.args.options.now c.args.g)) c.row-flats.result.now c.loop-y.y-index 0 c.loop-y-test.true c.loop-y.invariant c.if-not-not_at_most-2.ensures
 
-pub at-most-returns : goal.at-most-returns
-at-most-returns t c =
+pub at_most-returns : goal.at_most-returns
+at_most-returns t c =
     by_all c.args.forms.now c.args.options.now c.requires.sound c.args.g c.args.h c.requires.first c.requires.second
     (walked (λ x. NotLe (meaning c.args.forms.now c.args.options.now c.args.h) (meaning c.args.forms.now c.args.options.now x)) _ _ c.row-uprights.ensures c.loop-x.x-index (omega arith) c.loop-x.invariant)
     (walked (λ y. NotLe (meaning c.args.forms.now c.args.options.now y) (meaning c.args.forms.now c.args.options.now c.args.g)) _ _ c.row-flats.ensures c.loop-y.y-index (omega arith) c.loop-y.invariant)
 
-pub not-at-most-at-most-requires : goal.not-at-most-at-most-requires
-not-at-most-at-most-requires t c =
+pub not_at_most-at_most-requires : goal.not_at_most-at_most-requires
+not_at_most-at_most-requires t c =
     let low = option_below c.args.forms.now c.args.options.now true c.args.g c.requires.sound c.requires.first _ c.row-own.ensures c.loop-x.x-index c.loop-x-test.true in
     let known : get_or c.row-own.result.now c.loop-x.x-index 0 < length c.args.forms.now = omega arith in
     (omega (arith, c.decreases), (c.requires.sound, (c.requires.second, known)))
 
-pub not-at-most-at-most-requires-in-loop-y : goal.not-at-most-at-most-requires-in-loop-y
-not-at-most-at-most-requires-in-loop-y t c =
+pub not_at_most-at_most-requires-in-loop-y : goal.not_at_most-at_most-requires-in-loop-y
+not_at_most-at_most-requires-in-loop-y t c =
     let low = option_below c.args.forms.now c.args.options.now false c.args.h c.requires.sound c.requires.second _ c.row-replies.ensures c.loop-y.y-index c.loop-y-test.true in
     let known : get_or c.row-replies.result.now c.loop-y.y-index 0 < length c.args.forms.now = omega arith in
     (omega (arith, c.decreases), (c.requires.sound, (known, c.requires.first)))
 
-pub not-at-most-returns-then-at-most : goal.not-at-most-returns-then-at-most
-not-at-most-returns-then-at-most t c = not_by_upright c.args.forms.now c.args.options.now c.requires.sound c.args.g c.args.h c.requires.first c.requires.second _ c.row-own.ensures c.loop-x.x-index c.loop-x-test.true c.if-at-most.ensures
+pub not_at_most-returns-then-at_most : goal.not_at_most-returns-then-at_most
+not_at_most-returns-then-at_most t c = not_by_upright c.args.forms.now c.args.options.now c.requires.sound c.args.g c.args.h c.requires.first c.requires.second _ c.row-own.ensures c.loop-x.x-index c.loop-x-test.true c.if-at_most.ensures
 
-pub not-at-most-returns-then-at-most-2 : goal.not-at-most-returns-then-at-most-2
-not-at-most-returns-then-at-most-2 t c = not_by_flat c.args.forms.now c.args.options.now c.requires.sound c.args.g c.args.h c.requires.first c.requires.second _ c.row-replies.ensures c.loop-y.y-index c.loop-y-test.true c.if-at-most-2.ensures
+pub not_at_most-returns-then-at_most-2 : goal.not_at_most-returns-then-at_most-2
+not_at_most-returns-then-at_most-2 t c = not_by_flat c.args.forms.now c.args.options.now c.requires.sound c.args.g c.args.h c.requires.first c.requires.second _ c.row-replies.ensures c.loop-y.y-index c.loop-y-test.true c.if-at_most-2.ensures
 
-pub not-at-most-loop-x-preserved : goal.not-at-most-loop-x-preserved
-not-at-most-loop-x-preserved t c =
-    All-more (λ x. NotLe (meaning c.args.forms.now c.args.options.now c.args.h) (meaning c.args.forms.now c.args.options.now x)) c.row-own.result.now c.loop-x.x-index 0 c.loop-x-test.true c.loop-x.invariant c.if-at-most.ensures
+pub not_at_most-loop-x-preserved : goal.not_at_most-loop-x-preserved
+not_at_most-loop-x-preserved t c =
+    All-more (λ x. NotLe (meaning c.args.forms.now c.args.options.now c.args.h) (meaning c.args.forms.now c.args.options.now x)) c.row-own.result.now c.loop-x.x-index 0 c.loop-x-test.true c.loop-x.invariant c.if-at_most.ensures
 
-pub not-at-most-loop-y-preserved : goal.not-at-most-loop-y-preserved
-not-at-most-loop-y-preserved t c =
-    All-more (λ y. NotLe (meaning c.args.forms.now c.args.options.now y) (meaning c.args.forms.now c.args.options.now c.args.g)) c.row-replies.result.now c.loop-y.y-index 0 c.loop-y-test.true c.loop-y.invariant c.if-at-most-2.ensures
+pub not_at_most-loop-y-preserved : goal.not_at_most-loop-y-preserved
+not_at_most-loop-y-preserved t c =
+    All-more (λ y. NotLe (meaning c.args.forms.now c.args.options.now y) (meaning c.args.forms.now c.args.options.now c.args.g)) c.row-replies.result.now c.loop-y.y-index 0 c.loop-y-test.true c.loop-y.invariant c.if-at_most-2.ensures
 
-pub not-at-most-returns : goal.not-at-most-returns
-not-at-most-returns t c =
+pub not_at_most-returns : goal.not_at_most-returns
+not_at_most-returns t c =
     by_all c.args.forms.now c.args.options.now c.requires.sound c.args.g c.args.h c.requires.first c.requires.second
     (walked (λ x. NotLe (meaning c.args.forms.now c.args.options.now c.args.h) (meaning c.args.forms.now c.args.options.now x)) _ _ c.row-own.ensures c.loop-x.x-index (omega arith) c.loop-x.invariant)
     (walked (λ y. NotLe (meaning c.args.forms.now c.args.options.now y) (meaning c.args.forms.now c.args.options.now c.args.g)) _ _ c.row-replies.ensures c.loop-y.y-index (omega arith) c.loop-y.invariant)

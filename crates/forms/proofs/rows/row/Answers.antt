@@ -3,11 +3,11 @@ use Rattle.forms.specs.Rows.{row_of}
 use Rattle.forms.proofs.Places.{part_is, part_within}
 use Rattle.forms.proofs.rows.row.Goals as goal
 
-pub slice-bounds-result-end : goal.slice-bounds-result-end
-slice-bounds-result-end c = omega (arith, part_within c.args.forms.now c.args.options.now true c.args.k c.requires.sound c.requires.known)
+pub slice_bounds-result-end : goal.slice_bounds-result-end
+slice_bounds-result-end c = omega (arith, part_within c.args.forms.now c.args.options.now true c.args.k c.requires.sound c.requires.known)
 
-pub slice-bounds-result-end-else-side : goal.slice-bounds-result-end-else-side
-slice-bounds-result-end-else-side c = omega (arith, part_within c.args.forms.now c.args.options.now false c.args.k c.requires.sound c.requires.known)
+pub slice_bounds-result-end-else-side : goal.slice_bounds-result-end-else-side
+slice_bounds-result-end-else-side c = omega (arith, part_within c.args.forms.now c.args.options.now false c.args.k c.requires.sound c.requires.known)
 
 pub returns-then-side : goal.returns-then-side
 returns-then-side c =

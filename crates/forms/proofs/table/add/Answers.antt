@@ -1,22 +1,22 @@
-use Rattle.std.proofs.Common.{◌≡◌, ℕ, ◌+◌, ◌-◌, ◌*◌, ◌<◌, ◌≤◌, true, false, List, length, take, drop, ap, ◌∙◌, arith}
+use Rattle.std.proofs.Common.{◌≡◌, ◌+◌, ◌-◌, ◌*◌, ◌≤◌, true, false, length, ◌∙◌, arith}
 use borrow.Rule.Slice.PartMut.{put_mid}
 use Rattle.forms.proofs.Windows.{part_long, length_put, before_put, row_put}
 use Rattle.forms.proofs.Linking.{table_after, kept_after, new_row}
 use Rattle.forms.proofs.table.add.Goals as goal
 
-pub write-row-requires : goal.write-row-requires
-write-row-requires c =
+pub write_row-requires : goal.write_row-requires
+write_row-requires c =
     record {
       long = part_long c.args.used c.args.options.now (let h = c.requires.table.space in omega (arith, c.requires.room));
-      few-upright = c.requires.fresh.few true;
-      few-flat = c.requires.fresh.few false;
+      few_upright = c.requires.fresh.few true;
+      few_flat = c.requires.fresh.few false;
     }
 
-pub overflow-cast-forms : goal.overflow-cast-forms
-overflow-cast-forms c = omega (arith, c.requires.fresh.few true)
+pub overflow_cast-forms : goal.overflow_cast-forms
+overflow_cast-forms c = omega (arith, c.requires.fresh.few true)
 
-pub overflow-cast-forms-2 : goal.overflow-cast-forms-2
-overflow-cast-forms-2 c = omega (arith, c.requires.fresh.few false)
+pub overflow_cast-forms-2 : goal.overflow_cast-forms-2
+overflow_cast-forms-2 c = omega (arith, c.requires.fresh.few false)
 
 pub returns : goal.returns
 returns c =

@@ -1,6 +1,6 @@
 use Rattle.std.proofs.Common.{◌-◌, ◌<◌, arith}
 use Rattle.std.proofs.lemmas.Bool.{both_ways}
-use Rattle.forms.proofs.Chains.{use_length, leads_none, from_bucket, past}
+use Rattle.forms.proofs.Chains.{leads_none, from_bucket, past}
 use Rattle.forms.proofs.table.find.Goals as goal
 
 pub loop-link-init : goal.loop-link-init

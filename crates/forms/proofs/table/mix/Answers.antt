@@ -1,4 +1,4 @@
-use Rattle.std.proofs.Common.{arith, rules}
+use Rattle.std.proofs.Common.{arith}
 use Rattle.forms.proofs.Chains.{mixed_more, mixed_all}
 use Rattle.forms.proofs.table.mix.Goals as goal
 

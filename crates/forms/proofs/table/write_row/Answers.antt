@@ -5,5 +5,5 @@ pub returns : goal.returns
 returns c =
     record {
       upright = wrote_upright c.args.upright.now c.args.flat.now c.args.place.now c.requires.long c.requires.few_upright c.requires.few_flat _ _ c.copy_from_slice.ensures.after;
-      flat = wrote_flat c.args.upright.now c.args.flat.now c.args.place.now c.requires.long c.requires.few_upright c.requires.few_flat _ _ c.copy_from_slice.ensures.after c.copy-from-slice-2.ensures.after;
+      flat = wrote_flat c.args.upright.now c.args.flat.now c.args.place.now c.requires.long c.requires.few_upright c.requires.few_flat _ _ c.copy_from_slice.ensures.after c.copy_from_slice-2.ensures.after;
     }

@@ -10,8 +10,8 @@ loop-p-preserved c =
     let n = c.loop-p.n in
     let step = count_more (grid_of c.args.self.now).cells c.loop-p.p n c.if-is_free.n _ (omega arith) c.loop-p.invariant.1 in
     elim c.if-is_free.branch [
-      | then-is_free w ↦ (omega (arith, w.n-is), step (w.n-is ∙ ap (λ t. n + pick t 1 0) (sym w.if-is-free.true ∙ c.is-free.ensures)))
-      | else-is_free w ↦ (omega (arith, w.n-is), step (w.n-is ∙ sym (add-zero n) ∙ ap (λ t. n + pick t 1 0) (sym w.if-is-free.false ∙ c.is-free.ensures)))
+      | then-is_free w ↦ (omega (arith, w.n-is), step (w.n-is ∙ ap (λ t. n + pick t 1 0) (sym w.if-is_free.true ∙ c.is_free.ensures)))
+      | else-is_free w ↦ (omega (arith, w.n-is), step (w.n-is ∙ sym (add-zero n) ∙ ap (λ t. n + pick t 1 0) (sym w.if-is_free.false ∙ c.is_free.ensures)))
     ]
 
 pub returns : goal.returns

@@ -1,7 +1,5 @@
 use Rattle.std.proofs.Common.{◌*◌, false, sym, refl, ap, ◌∙◌, arith, rules}
-use Rattle.std.proofs.lemmas.List.{length-set, set_past}
-use Rattle.board.specs.Grid.{Grid}
-use Rattle.board.specs.Moves.{taken}
+use Rattle.std.proofs.lemmas.List.{set_past}
 use Rattle.board.specs.Values.{grid_of}
 use Rattle.board.proofs.Cells.{taken_step, taken_all}
 use Rattle.board.proofs.board.Board.without.Goals as goal
