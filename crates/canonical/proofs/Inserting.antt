@@ -1,11 +1,11 @@
 -- A number put into a rising row.
-use Rattle.std.proofs.Common.{◌≡◌, ℕ, zero, suc, ◌+◌, ◌<◌, ◌≤◌, ◌⊎◌, List, [], ◌∷◌, ◌++◌, length, get_or, take, drop, sym, refl, ap, ◌∙◌, subst, inl, inr, arith}
+use Rattle.std.proofs.Common.{◌≡◌, ℕ, zero, suc, ◌+◌, ◌<◌, ◌≤◌, ◌⊎◌, List, [], ◌∷◌, ◌++◌, length, get_or, take, drop, sym, ◌∙◌, subst, inl, inr, arith}
 use Rattle.std.specs.List.{ContainsAt as Has, AllByRecursion as All}
 use Rattle.std.proofs.lemmas.List.{take-append-drop, take_all, drop_more, drop_all}
-use Rattle.std.proofs.ByRecursion.{All-append, All-take, All-drop, All-weaker, has_get_or, has_append_left, has_append_right}
+use Rattle.std.proofs.ByRecursion.{All-append, All-take, All-weaker, has_get_or, has_append_left, has_append_right}
 use Rattle.std.proofs.lemmas.Bool.{cases_lt}
 use Rattle.forms.specs.Rows.{Rising}
-use Rattle.forms.proofs.Risings.{has_here, has_there, has_cases, has_none}
+use Rattle.forms.proofs.Risings.{has_here, has_there, has_cases}
 use Rattle.canonical.specs.Reducing.{Inserted}
 
 pub rising_append : (xs ys : List ℕ) → Rising xs → Rising ys → All (λ x. All (λ y. x < y) ys) xs → Rising (xs ++ ys)

@@ -1,5 +1,5 @@
 -- Forms kept in a row, or what serves for them.
-use Rattle.std.proofs.Common.{◌≡◌, ℕ, ◌+◌, ◌<◌, ◌≤◌, ◌⊎◌, List, [], ◌∷◌, ◌++◌, length, get_or, take, sym, refl, ap, ◌∙◌, subst, inl, inr, arith}
+use Rattle.std.proofs.Common.{◌≡◌, ℕ, ◌+◌, ◌<◌, ◌≤◌, List, [], length, get_or, take, sym, ◌∙◌, subst, inl, inr}
 use Rattle.std.specs.List.{ContainsAt as Has, AllByRecursion as All}
 use Rattle.std.proofs.lemmas.List.{take_all}
 use Rattle.std.proofs.ByRecursion.{All-more, All-weaker, all-has}
@@ -7,7 +7,7 @@ use Rattle.games.specs.Game.{Side, other, Game, options, In}
 use Rattle.games.specs.Order.{Worse, NotWorse}
 use Rattle.games.proofs.Sides.{worse_own, worse-by, by_reply, not_worse_below}
 use Rattle.forms.specs.declared.rows.Form.{Form}
-use Rattle.forms.specs.Rows.{Rising, row_of, row_for}
+use Rattle.forms.specs.Rows.{row_of, row_for}
 use Rattle.forms.specs.Meaning.{meaning, given}
 use Rattle.forms.specs.Soundness.{Sound}
 use Rattle.forms.proofs.Risings.{has_none}

@@ -1,12 +1,11 @@
 -- The form of a canonical game that is given by its rows: found, added, or refused.
 use Rattle.std.proofs.Common.{◌≡◌, ℕ, ◌+◌, ◌<◌, ◌≤◌, true, false, ◌⊎◌, List, length, get_or, take, Ok, Err, Result, sym, refl, ap, ◌∙◌, subst, inl, inr, arith}
-use Rattle.std.specs.List.{ContainsAt as Has, AllByRecursion as All}
+use Rattle.std.specs.List.{ContainsAt as Has}
 use Rattle.std.proofs.lemmas.List.{get_or-take, length-take-le}
 use Rattle.std.proofs.ByRecursion.{All-get_or, all-has, All-weaker, has_get_or}
 use Rattle.std.proofs.lemmas.Bool.{cases_order}
 use Rattle.games.specs.Game.{Side, Game, game, options, In}
 use Rattle.games.specs.Order.{Equal}
-use Rattle.games.specs.Canonical.{Canonical}
 use Rattle.games.specs.Count.{Wide, NotWide}
 use Rattle.games.proofs.Sides.{equal_refl, equal_sym, equal_trans}
 use Rattle.games.proofs.Forms.{matched}

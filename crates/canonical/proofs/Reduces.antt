@@ -1,16 +1,15 @@
 -- The rows that are left make a canonical game equal to the one as given.
-use Rattle.std.proofs.Common.{◌≡◌, ℕ, ◌<◌, ◌≤◌, true, false, List, length, sym, refl, ap, ◌∙◌, subst}
-use Rattle.std.specs.List.{ContainsAt as Has, AllByRecursion as All}
+use Rattle.std.proofs.Common.{◌≡◌, ℕ, ◌<◌, true, false, List, length, sym, ap, ◌∙◌, subst}
 use Rattle.games.specs.Game.{Side, other, Game, options, In}
 use Rattle.games.specs.Order.{Equal, Worse, NotWorse}
 use Rattle.games.specs.Canonical.{Canonical, canonical}
 use Rattle.games.proofs.Sides.{turn_not, own, not_worse_below, equal_sym, equal_worse, equal_by}
 use Rattle.forms.specs.declared.rows.Form.{Form}
-use Rattle.forms.specs.Rows.{Rising, row_for}
+use Rattle.forms.specs.Rows.{row_for}
 use Rattle.forms.specs.Meaning.{meaning, given}
 use Rattle.forms.specs.Soundness.{Sound}
 use Rattle.forms.proofs.Givens.{in_given, from_given, of_given}
-use Rattle.canonical.specs.Reducing.{Fit, Serves, Bypassed, Thinned, Reduced, Reduction}
+use Rattle.canonical.specs.Reducing.{Bypassed, Thinned, Reduced, Reduction}
 use Rattle.canonical.proofs.Thinning.{all_from_has}
 
 -- dominated forms struck from a row that serves

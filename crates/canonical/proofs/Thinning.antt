@@ -1,15 +1,14 @@
 -- Dominated forms struck from a row, one after the other.
-use Rattle.std.proofs.Common.{◌≡◌, ℕ, zero, suc, ◌+◌, ◌<◌, ◌≤◌, ◌⊎◌, List, [], ◌∷◌, ◌++◌, length, get_or, take, drop, sym, refl, ap, ◌∙◌, subst, inl, inr, arith}
+use Rattle.std.proofs.Common.{◌≡◌, ℕ, zero, suc, ◌+◌, ◌<◌, ◌≤◌, ◌⊎◌, List, [], ◌∷◌, ◌++◌, length, get_or, take, drop, sym, ◌∙◌, subst, inl, inr, arith}
 use Rattle.std.specs.List.{ContainsAt as Has, AllByRecursion as All}
 use Rattle.std.proofs.lemmas.List.{drop_more, drop_all, take_more}
-use Rattle.std.proofs.ByRecursion.{all-has, All-from_get_or, has_get_or, has_push, has_append_left, has_append_right, has_push_cases}
+use Rattle.std.proofs.ByRecursion.{all-has, All-from_get_or, has_get_or, has_push, has_append_left, has_push_cases}
 use Rattle.games.specs.Game.{Side}
 use Rattle.games.specs.Order.{Worse, NotWorse}
 use Rattle.games.proofs.Sides.{worse_refl, worse_trans, worse_not_both}
 use Rattle.forms.specs.declared.rows.Form.{Form}
 use Rattle.forms.specs.Rows.{Rising}
 use Rattle.forms.specs.Meaning.{meaning}
-use Rattle.forms.specs.Soundness.{Known}
 use Rattle.forms.proofs.Risings.{has_here, has_there, has_cases, has_none}
 use Rattle.canonical.specs.Reducing.{Thinned}
 use Rattle.canonical.proofs.Inserting.{rising_append, has_take}

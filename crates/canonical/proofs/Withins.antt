@@ -1,10 +1,10 @@
 -- A form compared with the game as given, by the options of both.
-use Rattle.std.proofs.Common.{◌≡◌, ℕ, ◌<◌, ◌≤◌, List, length, get_or, sym, refl, ap, ◌∙◌, subst, arith}
+use Rattle.std.proofs.Common.{◌≡◌, ℕ, ◌<◌, List, length, get_or, sym, subst}
 use Rattle.std.specs.List.{ContainsAt as Has, AllByRecursion as All}
 use Rattle.std.proofs.ByRecursion.{All-get_or, all-has, has_get_or}
-use Rattle.games.specs.Game.{Side, other, Game, options, In}
+use Rattle.games.specs.Game.{Side, other}
 use Rattle.games.specs.Order.{Worse, NotWorse}
-use Rattle.games.proofs.Sides.{turn, turn_not, by_option, by_reply, worse-by}
+use Rattle.games.proofs.Sides.{turn, by_option, by_reply, worse-by}
 use Rattle.forms.specs.declared.rows.Form.{Form}
 use Rattle.forms.specs.Rows.{row_of, row_for}
 use Rattle.forms.specs.Meaning.{meaning, given}

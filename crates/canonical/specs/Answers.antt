@@ -1,6 +1,6 @@
 -- What is answered for a game that is given by two rows of forms.
 use Rattle.std.specs.Prelude.{◌≡◌, ℕ, ◌+◌, ◌<◌, ◌⊎◌, List, length, take, Ok, Err, Result}
-use Rattle.games.specs.Game.{Side, Game}
+use Rattle.games.specs.Game.{Game}
 use Rattle.games.specs.Order.{Equal}
 use Rattle.games.specs.Canonical.{Canonical}
 use Rattle.games.specs.Count.{Wide}

@@ -1,5 +1,5 @@
 -- Forms compared as one side sees them.
-use Rattle.std.specs.Prelude.{ℕ, ◌<◌, Bool, List, length, Some, None, MatchBool, Option}
+use Rattle.std.specs.Prelude.{ℕ, ◌<◌, Bool, List, Some, None, MatchBool, Option}
 use Rattle.std.specs.List.{ContainsAt as Has}
 use Rattle.games.specs.Game.{Side, other, Game, options, In}
 use Rattle.games.specs.Order.{Worse, NotWorse}

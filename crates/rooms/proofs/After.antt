@@ -1,12 +1,12 @@
 -- The rooms of a board after a plank lie in its rooms.
-use Rattle.std.proofs.Common.{◌≡◌, ℕ, ◌≤◌, true, false, not, ◌&&◌, List, length, get_or, sym, refl, ◌∙◌, subst}
+use Rattle.std.proofs.Common.{◌≡◌, ℕ, true, sym, ◌∙◌}
 use Rattle.std.specs.List.{ContainsAt as Has}
 use Rattle.std.proofs.ByRecursion.{all-has}
 use Rattle.std.proofs.lemmas.Bool.{and_parts}
 use Rattle.board.specs.Grid.{Grid, Side, free, Edge, Next}
-use Rattle.board.specs.Moves.{covers, taken, laid}
+use Rattle.board.specs.Moves.{laid}
 use Rattle.rooms.specs.Laid.{LaidRooms}
-use Rattle.rooms.specs.Rooms.{Room, Rooms}
+use Rattle.rooms.specs.Rooms.{Room}
 use Rattle.rooms.specs.Walks.{Walk, stay, go}
 use Rattle.rooms.proofs.Lists.{no_longer, rise_apart, all_by_has}
 use Rattle.rooms.proofs.Reach.{walk_keeps, room_square}

@@ -1,5 +1,5 @@
 -- The rooms of a board after a plank.
-use Rattle.std.specs.Prelude.{◌≡◌, ℕ, ◌≤◌, List, length}
+use Rattle.std.specs.Prelude.{ℕ, ◌≤◌, List, length}
 use Rattle.std.specs.List.{ContainsAt as Has}
 use Rattle.board.specs.Grid.{Grid, Side}
 use Rattle.board.specs.Moves.{laid}

@@ -64,7 +64,7 @@ fn walk(board: &Board, first: u16, seen: &mut [bool; 256]) -> Option<Room>
         len = n;
         at += 1;
     }
-    squares[..len].sort();
+    squares[..len].sort_unstable();
     Some(Room { squares, len })
 }
 

@@ -16,7 +16,7 @@ returns-then-used-forms c = (
   refl,
   refl,
   placed_full c.args.forms.now c.args.options.now c.args.used c.requires.table c.args.upright.now c.args.flat.now c.requires.reduced
-      (few_both c.args.upright.now c.args.flat.now c.if-upright-gt16.false c.if-flat-gt16.false) c.in-default.ensures c.if-used-forms.true,
+      (few_both c.args.upright.now c.args.flat.now c.if-upright-gt16.false c.if-flat-gt16.false) c.in_default.ensures c.if-used-forms.true,
 )
 
 pub add-requires : goal.add-requires
@@ -26,7 +26,7 @@ add-requires c =
       room = omega (arith, c.requires.table.within);
       fresh =
           fresh c.args.forms.now c.args.options.now c.args.used c.requires.table c.args.upright.now c.args.flat.now c.requires.reduced
-          (few_both c.args.upright.now c.args.flat.now c.if-upright-gt16.false c.if-flat-gt16.false) c.in-default.ensures;
+          (few_both c.args.upright.now c.args.flat.now c.if-upright-gt16.false c.if-flat-gt16.false) c.in_default.ensures;
     }
 
 pub returns : goal.returns

@@ -10,8 +10,8 @@ use Rattle.canonical.proofs.canonical.reduce.Goals as goal
 
 pub thin-requires : goal.thin-requires
 thin-requires c =
-    let b = c.in-ok-firm.ensures in
-    let same = sym c.as-slice.ensures.value in
+    let b = c.in_ok-firm.ensures in
+    let same = sym c.as_slice.ensures.value in
     record {
       sound = c.requires.sound;
       known = subst (Known c.args.forms.now) same (all_from_has (λ w. w < length c.args.forms.now) _ b.fit.known);
@@ -24,6 +24,6 @@ returns c =
     let os = c.args.options.now in
     let s = c.args.side in
     let g = given fs os c.args.upright.now c.args.flat.now in
-    let row = vec_items c.in-ok-firm.firm in
-    IfOk-weaker c.thin.result (λ v. Thinned fs os s c.as-slice.result.now (vec_items v)) (λ v. Reduced fs os s g (vec_items v))
-    (λ v t. reduced fs os s g row (vec_items v) c.in-ok-firm.ensures (subst (λ l. Thinned fs os s l (vec_items v)) c.as-slice.ensures.value t)) c.thin.ensures
+    let row = vec_items c.in_ok-firm.firm in
+    IfOk-weaker c.thin.result (λ v. Thinned fs os s c.as_slice.result.now (vec_items v)) (λ v. Reduced fs os s g (vec_items v))
+    (λ v t. reduced fs os s g row (vec_items v) c.in_ok-firm.ensures (subst (λ l. Thinned fs os s l (vec_items v)) c.as_slice.ensures.value t)) c.thin.ensures

@@ -31,19 +31,19 @@ pub worse-requires : goal.worse-requires
 worse-requires t c =
     record {
       sound = c.requires.sound;
-      first = known_at c.args.forms.now c.args.upright.now c.args.flat.now c.requires.rows (other c.args.side) _ c.of-side-replies.ensures c.loop-y.y-index c.loop-y-test.true;
+      first = known_at c.args.forms.now c.args.upright.now c.args.flat.now c.requires.rows (other c.args.side) _ c.of_side-replies.ensures c.loop-y.y-index c.loop-y-test.true;
       second = c.requires.known;
     }
 
 pub returns-then-worse : goal.returns-then-worse
 returns-then-worse t c =
     not_by_given c.args.forms.now c.args.options.now c.requires.sound c.args.upright.now c.args.flat.now c.args.side c.args.k c.requires.known
-    _ c.of-side-replies.ensures c.loop-y.y-index c.loop-y-test.true c.if-worse.ensures
+    _ c.of_side-replies.ensures c.loop-y.y-index c.loop-y-test.true c.if-worse.ensures
 
 pub loop-y-preserved : goal.loop-y-preserved
 loop-y-preserved t c =
     All-more (λ y. NotWorse c.args.side (meaning c.args.forms.now c.args.options.now y) (meaning c.args.forms.now c.args.options.now c.args.k))
-    c.of-side-replies.result.now c.loop-y.y-index 0 c.loop-y-test.true c.loop-y.invariant c.if-worse.ensures
+    c.of_side-replies.result.now c.loop-y.y-index 0 c.loop-y-test.true c.loop-y.invariant c.if-worse.ensures
 
 pub returns : goal.returns
 returns t c =
@@ -53,4 +53,4 @@ returns t c =
     let g = given fs os c.args.upright.now c.args.flat.now in
     within_all fs os c.requires.sound c.args.upright.now c.args.flat.now s c.args.k c.requires.known
     (walked (λ x. NotWorse s g (meaning fs os x)) _ _ c.row-own.ensures c.loop-x.x-index (omega arith) c.loop-x.invariant)
-    (walked (λ y. NotWorse s (meaning fs os y) (meaning fs os c.args.k)) _ _ c.of-side-replies.ensures c.loop-y.y-index (omega arith) c.loop-y.invariant)
+    (walked (λ y. NotWorse s (meaning fs os y) (meaning fs os c.args.k)) _ _ c.of_side-replies.ensures c.loop-y.y-index (omega arith) c.loop-y.invariant)

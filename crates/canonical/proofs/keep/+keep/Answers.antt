@@ -1,23 +1,22 @@
-use Rattle.std.proofs.Common.{◌<◌, length, get_or, vec_items, sym, subst, arith}
+use Rattle.std.proofs.Common.{◌<◌, length, get_or, vec_items, arith}
 use Rattle.std.proofs.lemmas.Result.{IfOk-weaker}
-use Rattle.std.proofs.lemmas.List.{take_all}
 use Rattle.forms.specs.Rows.{row_of}
-use Rattle.forms.specs.Meaning.{meaning, given}
+use Rattle.forms.specs.Meaning.{given}
 use Rattle.forms.proofs.Places.{option_below}
 use Rattle.forms.proofs.Compared.{option_at}
 use Rattle.canonical.specs.Reducing.{Inserted, Passed}
 use Rattle.canonical.proofs.Passing.{passing_none, passing_more, passing_end, kept_in, follows, bypassed}
 use Rattle.canonical.proofs.keep.+keep.Goals as goal
 
-pub returns-in-default : goal.returns-in-default
-returns-in-default t c =
+pub returns-in_default : goal.returns-in_default
+returns-in_default t c =
     let fs = c.args.forms.now in
     let os = c.args.options.now in
     let g = given fs os c.args.upright.now c.args.flat.now in
     let row = vec_items c.args.chosen.now in
     let new = vec_items c.insert.new.row in
     IfOk-weaker c.insert.result (λ _. Inserted row c.args.x new) (λ _. Passed fs os c.args.side g row c.args.x new)
-    (λ _ put. kept_in fs os c.args.side g row c.args.x new c.requires.fit c.requires.known c.requires.allowed c.in-default.ensures put) c.insert.ensures
+    (λ _ put. kept_in fs os c.args.side g row c.args.x new c.requires.fit c.requires.known c.requires.allowed c.in_default.ensures put) c.insert.ensures
 
 pub loop-z-init : goal.loop-z-init
 loop-z-init t c =
@@ -46,7 +45,7 @@ loop-z-preserved t c =
     let os = c.args.options.now in
     let g = given fs os c.args.upright.now c.args.flat.now in
     passing_more fs os c.args.side g (vec_items c.args.chosen.now) (vec_items c.loop-z.chosen) (vec_items c.keep.new.chosen) c.row-after.result.now c.loop-z.z-index
-    c.loop-z-test.true c.loop-z.invariant c.in-ok-keep.ensures
+    c.loop-z-test.true c.loop-z.invariant c.in_ok-keep.ensures
 
 pub returns : goal.returns
 returns t c =

@@ -1,4 +1,4 @@
-use Rattle.std.proofs.Common.{ℕ, List, [], length, get_or, vec_items, sym, subst, arith}
+use Rattle.std.proofs.Common.{ℕ, List, [], get_or, vec_items, sym, subst, arith}
 use Rattle.std.specs.List.{ContainsAt as Has}
 use Rattle.std.proofs.ByRecursion.{has_get_or}
 use Rattle.games.proofs.Sides.{own}
@@ -23,13 +23,13 @@ keep-requires c =
     let us = c.args.upright.now in
     let ls = c.args.flat.now in
     let s = c.args.side in
-    let xs = c.of-side-own.result.now in
+    let xs = c.of_side-own.result.now in
     let x = get_or xs c.loop-x.x-index 0 in
     record {
       sound = c.requires.sound;
-      known = known_at fs us ls c.requires.rows s xs c.of-side-own.ensures c.loop-x.x-index c.loop-x-test.true;
+      known = known_at fs us ls c.requires.rows s xs c.of_side-own.ensures c.loop-x.x-index c.loop-x-test.true;
       rows = c.requires.rows;
-      allowed = own s (given fs os us ls) (meaning fs os x) (in_given fs os us ls s x (subst (λ zs. Has zs x) c.of-side-own.ensures (has_get_or xs c.loop-x.x-index 0 c.loop-x-test.true)));
+      allowed = own s (given fs os us ls) (meaning fs os x) (in_given fs os us ls s x (subst (λ zs. Has zs x) c.of_side-own.ensures (has_get_or xs c.loop-x.x-index 0 c.loop-x-test.true)));
       fit = c.loop-x.invariant.fit;
     }
 
@@ -37,8 +37,8 @@ pub loop-x-preserved : goal.loop-x-preserved
 loop-x-preserved c =
     let fs = c.args.forms.now in
     let os = c.args.options.now in
-    passing_more fs os c.args.side (given fs os c.args.upright.now c.args.flat.now) [] (vec_items c.loop-x.chosen) (vec_items c.keep.new.chosen) c.of-side-own.result.now c.loop-x.x-index
-    c.loop-x-test.true c.loop-x.invariant c.in-ok-keep.ensures
+    passing_more fs os c.args.side (given fs os c.args.upright.now c.args.flat.now) [] (vec_items c.loop-x.chosen) (vec_items c.keep.new.chosen) c.of_side-own.result.now c.loop-x.x-index
+    c.loop-x-test.true c.loop-x.invariant c.in_ok-keep.ensures
 
 pub returns : goal.returns
 returns c =
@@ -48,4 +48,4 @@ returns c =
     let ls = c.args.flat.now in
     let s = c.args.side in
     all_passed fs os s us ls (vec_items c.loop-x.chosen)
-    (passing_end fs os s (given fs os us ls) [] (vec_items c.loop-x.chosen) _ _ c.of-side-own.ensures c.loop-x.x-index (omega arith) c.loop-x.invariant)
+    (passing_end fs os s (given fs os us ls) [] (vec_items c.loop-x.chosen) _ _ c.of_side-own.ensures c.loop-x.x-index (omega arith) c.loop-x.invariant)

@@ -1,7 +1,6 @@
-use Rattle.std.proofs.Common.{◌<◌, true, false, length, take, sym, refl, subst}
+use Rattle.std.proofs.Common.{◌<◌, true, false, sym, refl, subst}
 use Rattle.std.specs.List.{AllByRecursion as All}
 use Rattle.forms.specs.Rows.{row_for}
-use Rattle.forms.specs.Soundness.{Known}
 use Rattle.forms.proofs.Chains.{use_length}
 use Rattle.canonical.proofs.tests.place.Goals as goal
 
@@ -13,7 +12,7 @@ canonical-requires c =
       table = c.requires.table;
       rows =
           λ s. subst (λ m. All (λ x. x < m) (row_for s c.args.upright.now c.args.flat.now)) (sym (use_length fs c.args.options.now n c.requires.table))
-          (elim s as (λ t. All (λ x. x < n) (row_for t c.args.upright.now c.args.flat.now)) [ true ↦ c.if-not-are-below.ensures refl | false ↦ c.if-not-are-below-2.ensures refl ]);
+          (elim s as (λ t. All (λ x. x < n) (row_for t c.args.upright.now c.args.flat.now)) [ true ↦ c.if-not-are_below.ensures refl | false ↦ c.if-not-are_below-2.ensures refl ]);
     }
 
 pub returns-in-Ok : goal.returns-in-Ok

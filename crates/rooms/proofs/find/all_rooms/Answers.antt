@@ -11,14 +11,14 @@ use Rattle.rooms.proofs.find.all_rooms.Goals as goal
 pub loop-p-init : goal.loop-p-init
 loop-p-init c = (refl, refl, omega arith, sofar_start (grid_of c.args.board.now) 256)
 
-pub loop-p-preserved-then-not-is-free : goal.loop-p-preserved-then-not-is-free
-loop-p-preserved-then-not-is-free c =
+pub loop-p-preserved-then-not-is_free : goal.loop-p-preserved-then-not-is_free
+loop-p-preserved-then-not-is_free c =
     let b = grid_of c.args.board.now in
     let inv = c.loop-p.invariant in (
       inv.0,
       inv.1,
       inv.2,
-      sofar_skip b c.loop-p.p c.loop-p.seen _ inv.3 (λ f. absurd (both_ways (free b c.loop-p.p) (sym c.if-not-is-free.ensures) f)),
+      sofar_skip b c.loop-p.p c.loop-p.seen _ inv.3 (λ f. absurd (both_ways (free b c.loop-p.p) (sym c.if-not-is_free.ensures) f)),
     )
 
 pub loop-p-preserved-then-seen-p : goal.loop-p-preserved-then-seen-p
@@ -26,12 +26,12 @@ loop-p-preserved-then-seen-p c =
     let inv = c.loop-p.invariant in
     (inv.0, inv.1, inv.2, sofar_skip (grid_of c.args.board.now) c.loop-p.p c.loop-p.seen _ inv.3 (λ f. c.if-seen-p.true))
 
-pub returns-in-default : goal.returns-in-default
+pub returns-in_default : goal.returns-in_default
 unfolding Found Walked
-returns-in-default c = (
+returns-in_default c = (
   c.loop-p.p,
   refl,
-  found_larger (grid_of c.args.board.now) c.loop-p.p c.loop-p.seen _ c.loop-p.invariant.3 (sym c.if-not-is-free.ensures) c.if-seen-p.false c.in-default.ensures,
+  found_larger (grid_of c.args.board.now) c.loop-p.p c.loop-p.seen _ c.loop-p.invariant.3 (sym c.if-not-is_free.ensures) c.if-seen-p.false c.in_default.ensures,
 )
 
 pub loop-p-preserved-then-squares-lt-FEWEST : goal.loop-p-preserved-then-squares-lt-FEWEST
@@ -41,7 +41,7 @@ loop-p-preserved-then-squares-lt-FEWEST c =
       c.walk.array_long,
       inv.1,
       inv.2,
-      sofar_single (grid_of c.args.board.now) c.loop-p.p c.loop-p.seen _ inv.3 (sym c.if-not-is-free.ensures) c.if-seen-p.false c.walk.new.seen
+      sofar_single (grid_of c.args.board.now) c.loop-p.p c.loop-p.seen _ inv.3 (sym c.if-not-is_free.ensures) c.if-seen-p.false c.walk.new.seen
           (squares_of c.in-Some.room) c.in-Some.ensures (omega (arith, c.if-squares-lt-FEWEST.true, ap length c.squares.ensures)),
     )
 
@@ -50,7 +50,7 @@ added : (c : goal.Else-squares-lt-FEWEST) →
     Sofar (grid_of c.args.board.now) (c.loop-p.p + 1) c.walk.new.seen (map squares_of (take c.loop-p.len c.loop-p.rooms) ++ squares_of c.in-Some.room ∷ [])
 unfolding Walked
 added c =
-    sofar_room (grid_of c.args.board.now) c.loop-p.p c.loop-p.seen _ c.loop-p.invariant.3 (sym c.if-not-is-free.ensures) c.if-seen-p.false c.walk.new.seen
+    sofar_room (grid_of c.args.board.now) c.loop-p.p c.loop-p.seen _ c.loop-p.invariant.3 (sym c.if-not-is_free.ensures) c.if-seen-p.false c.walk.new.seen
     (squares_of c.in-Some.room) c.in-Some.ensures (omega (arith, c.if-squares-lt-FEWEST.false, ap length c.squares.ensures)) (squares_few c.in-Some.room)
 
 pub bounds-rooms-len : goal.bounds-rooms-len

@@ -13,14 +13,14 @@ returns-in-Err c = inl c.in-Err.ensures
 pub returns-in-Some : goal.returns-in-Some
 unfolding Found Judged
 returns-in-Some c =
-    let found = c.in-Some.ensures.finds in
-    let long = slice_long c.as-slice.result.now (rooms_of c.in-Ok.rooms) c.as-slice.ensures in
-    let value = slice_at c.as-slice.result.now (rooms_of c.in-Ok.rooms) 32 c.in-Some.room.now c.as-slice.ensures found.3.0 found.1 in
+    let found = c.in-Some.ensures.lookup in
+    let long = slice_long c.as_slice.result.now (rooms_of c.in-Ok.rooms) c.as_slice.ensures in
+    let value = slice_at c.as_slice.result.now (rooms_of c.in-Ok.rooms) 32 c.in-Some.room.now c.as_slice.ensures found.3.0 found.1 in
     inr (rooms_of c.in-Ok.rooms, c.in-Ok.ensures, omega (arith, found.3.0), ap refusal.Rooms (c.first.ensures ∙ ap first value))
 
 pub returns : goal.returns
 unfolding Found Judged
 returns c =
-    let long = slice_long c.as-slice.result.now (rooms_of c.in-Ok.rooms) c.as-slice.ensures in
-    let short = ltb-false 32 (length c.as-slice.result.now) (sym {b = ltb 32 (length c.as-slice.result.now)} c.in-default.ensures.finds.0) in
+    let long = slice_long c.as_slice.result.now (rooms_of c.in-Ok.rooms) c.as_slice.ensures in
+    let short = ltb-false 32 (length c.as_slice.result.now) (sym {b = ltb 32 (length c.as_slice.result.now)} c.in_default.ensures.lookup.0) in
     (c.in-Ok.ensures, omega arith)

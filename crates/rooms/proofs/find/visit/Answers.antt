@@ -13,13 +13,13 @@ bounds-seen-q c = neighbour_below c.args.board.now c.args.from (get_or all_ways 
 pub loop-way-init : goal.loop-way-init
 loop-way-init c = (c.told-seen, c.told-squares, c.requires, visited_start (grid_of c.args.board.now) (board_wide c.args.board.now) c.args.from c.args.seen.now (take c.args.len c.args.squares.now))
 
-pub loop-way-preserved-in-default : goal.loop-way-preserved-in-default
-loop-way-preserved-in-default c =
+pub loop-way-preserved-in_default : goal.loop-way-preserved-in_default
+loop-way-preserved-in_default c =
     let inv = c.loop-way.invariant in (
       inv.0,
       inv.1,
       inv.2,
-      visited_none (grid_of c.args.board.now) (board_wide c.args.board.now) c.args.from c.loop-way.way-index Up c.loop-way-test.true _ _ _ _ inv.3 c.in-default.ensures,
+      visited_none (grid_of c.args.board.now) (board_wide c.args.board.now) c.args.from c.loop-way.way-index Up c.loop-way-test.true _ _ _ _ inv.3 c.in_default.ensures,
     )
 
 pub loop-way-preserved-then-seen-q : goal.loop-way-preserved-then-seen-q

@@ -12,11 +12,11 @@ use Rattle.rooms.proofs.find.walk.Goals as goal
 pub bounds-seen-first : goal.bounds-seen-first
 bounds-seen-first c = free_small c.args.board.now c.args.first c.requires.start
 
-pub returns-in-default : goal.returns-in-default
+pub returns-in_default : goal.returns-in_default
 unfolding Walked Visit
-returns-in-default c =
+returns-in_default c =
     let small = free_small c.args.board.now c.args.first c.requires.start in
-    c.in-default.ensures c.args.first c.args.seen.now
+    c.in_default.ensures c.args.first c.args.seen.now
     (c.loop-at.invariant.grown c.args.seen.now (grown-start (grid_of c.args.board.now) c.args.first c.args.seen.now c.requires.start c.requires.fresh (omega (arith, c.told-seen))))
     (walking_has _ _ c.loop-at.invariant c.loop-at-test.true)
 
@@ -25,7 +25,7 @@ unfolding Visit
 loop-at-preserved c =
     let visited = c.in-Some.ensures in
     walking-more (grid_of c.args.board.now) (board_wide c.args.board.now) c.args.first _ c.loop-at.seen c.visit.new.seen c.loop-at.squares c.visit.new.squares
-    c.loop-at.len c.loop-at.at c.in-Some.n c.loop-at.invariant c.loop-at-test.true visited.0 visited.1 c.visit.array_long c.visit.array-long2
+    c.loop-at.len c.loop-at.at c.in-Some.n c.loop-at.invariant c.loop-at-test.true visited.0 visited.1 c.visit.array_long c.visit.array_long2
 
 pub returns : goal.returns
 unfolding Walked squares_of
@@ -33,11 +33,11 @@ returns c =
     let small = free_small c.args.board.now c.args.first c.requires.start in
     let inv = c.loop-at.invariant in
     let found = take c.loop-at.len c.loop-at.squares in
-    let sorted = c.sort.new.self in
-    let long = length_permutation found sorted c.sort.ensures.permutation ∙ length-take-le c.loop-at.len c.loop-at.squares (omega (arith, inv.few, inv.long)) in
+    let sorted = c.sort_unstable.new.self in
+    let long = length_permutation found sorted c.sort_unstable.ensures.permutation ∙ length-take-le c.loop-at.len c.loop-at.squares (omega (arith, inv.few, inv.long)) in
     subst (Ended (grid_of c.args.board.now) c.args.first c.args.seen.now c.loop-at.seen)
     (sym (take_at sorted (drop c.loop-at.len c.loop-at.squares) c.loop-at.len long))
     (walk-ended (grid_of c.args.board.now) (board_wide c.args.board.now) c.args.first c.args.seen.now c.loop-at.seen c.loop-at.squares c.loop-at.len
     c.loop-at.at sorted inv c.loop-at-test.false
     (grown-start (grid_of c.args.board.now) c.args.first c.args.seen.now c.requires.start c.requires.fresh (omega (arith, c.told-seen)))
-    c.sort.ensures.permutation (IsNonDecreasingBy-from_sort (λ q. q) sorted c.sort.ensures.sorted))
+    c.sort_unstable.ensures.permutation (IsNonDecreasingBy-from_sort (λ q. q) sorted c.sort_unstable.ensures.sorted))

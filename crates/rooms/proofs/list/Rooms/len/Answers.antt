@@ -3,4 +3,4 @@ use Rattle.rooms.proofs.Finding.{slice_long}
 use Rattle.rooms.proofs.list.Rooms.len.Goals as goal
 
 pub returns : goal.returns
-returns c = slice_long c.as-slice.result.now (rooms_of c.args.self.now) c.as-slice.ensures
+returns c = slice_long c.as_slice.result.now (rooms_of c.args.self.now) c.as_slice.ensures
