@@ -1,20 +1,20 @@
 -- One step of finding the forms of positions: what is remembered, the rows of a set, and its form.
-use Rattle.std.proofs.Common.{◌≡◌, ℕ, zero, suc, ◌+◌, ◌-◌, ◌<◌, ◌≤◌, true, false, ◌⊎◌, List, [], length, get_or, take, set, sym, refl, ap, ◌∙◌, subst, inl, inr, ⊎_elim, arith, below_more}
+use Rattle.std.proofs.Common.{◌≡◌, ℕ, zero, suc, ◌+◌, ◌-◌, ◌<◌, ◌≤◌, true, false, List, [], length, get_or, take, set, sym, refl, ap, ◌∙◌, subst, ⊎_elim, arith, below_more}
 use Rattle.std.specs.List.{ContainsAt as Has}
 use Rattle.std.proofs.lemmas.List.{get_or-set_same, get_or-set_other}
-use Rattle.std.proofs.lemmas.Bool.{cases_lt, cases_eq}
-use Rattle.games.specs.Game.{Side, Game, options, In}
+use Rattle.std.proofs.lemmas.Bool.{cases_eq}
+use Rattle.games.specs.Game.{Side, Game}
 use Rattle.games.specs.Order.{Equal}
-use Rattle.games.proofs.Sides.{equal_sym, equal_trans, equal_refl}
+use Rattle.games.proofs.Sides.{equal_sym}
 use Rattle.forms.specs.declared.rows.Form.{Form}
-use Rattle.forms.specs.Rows.{Rising, row_for}
+use Rattle.forms.specs.Rows.{row_for}
 use Rattle.forms.specs.Meaning.{meaning, given}
 use Rattle.forms.specs.Links.{Table}
 use Rattle.forms.proofs.Givens.{equal-given}
 use Rattle.forms.proofs.Risings.{has_none}
 use Rattle.canonical.specs.Reducing.{Inserted}
 use Rattle.positions.specs.Growing.{Grows}
-use Rattle.positions.specs.Memory.{Family, OfSet, Noted, Remembers, Row}
+use Rattle.positions.specs.Memory.{Family, Noted, Remembers, Row}
 use Rattle.positions.specs.Reach.{Moves, set_at, Can, Leads, stay, move}
 use Rattle.positions.proofs.Growth.{grows_far, grows_meaning}
 

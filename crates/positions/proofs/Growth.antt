@@ -1,12 +1,11 @@
 -- Tables that grow, one step after another.
-use Rattle.std.proofs.Common.{◌≡◌, ℕ, ◌+◌, ◌<◌, ◌≤◌, ◌⊎◌, List, length, take, sym, refl, ap, ◌∙◌, subst, inl, inr, ⊎_elim, arith}
+use Rattle.std.proofs.Common.{◌≡◌, ℕ, ◌<◌, ◌≤◌, List, length, take, sym, refl, ◌∙◌, subst, ⊎_elim, arith}
 use Rattle.std.proofs.lemmas.Bool.{cases_lt}
 use Rattle.games.specs.Game.{Game}
 use Rattle.games.specs.Order.{Equal}
 use Rattle.forms.specs.declared.rows.Form.{Form}
 use Rattle.forms.specs.Meaning.{meaning}
 use Rattle.forms.specs.Links.{Table}
-use Rattle.forms.specs.Growth.{Kept}
 use Rattle.forms.proofs.Chains.{use_length}
 use Rattle.forms.proofs.Growing.{kept_refl, kept_trans}
 use Rattle.positions.specs.Growing.{Grows, Overfull}

@@ -1,11 +1,10 @@
 -- What the game of a board reaches; and the whole answer for a room.
-use Rattle.std.proofs.Common.{◌≡◌, ℕ, zero, suc, ◌+◌, ◌-◌, ◌/◌, ◌%◌, ◌^◌, ◌<◌, ◌≤◌, true, false, eqb, ◌⊎◌, List, [], ◌∷◌, length, get_or, take, drop, Ok, Err, sym, refl, ap, ◌∙◌, subst, inl, inr, ⊎_elim, pow-suc, arith, pow_pos}
+use Rattle.std.proofs.Common.{◌≡◌, ℕ, suc, ◌+◌, ◌-◌, ◌/◌, ◌%◌, ◌^◌, ◌<◌, ◌≤◌, true, List, [], ◌∷◌, length, get_or, take, drop, Err, sym, refl, ap, ◌∙◌, subst, ⊎_elim, pow-suc, arith, pow_pos}
 use Rattle.std.specs.List.{ContainsAt as Has}
 use Rattle.std.proofs.lemmas.List.{get_or_past, length-take}
 use Rattle.std.proofs.lemmas.Bool.{cases_lt, eq-eqb}
-use Rattle.games.specs.Game.{Side, Game, options, In, Reached, itself, onward}
+use Rattle.games.specs.Game.{Game, options, In, Reached, itself, onward}
 use Rattle.games.specs.Order.{Equal}
-use Rattle.games.proofs.Sides.{equal_refl}
 use Rattle.board.specs.Grid.{Grid, pick, free_count}
 use Rattle.board.specs.Moves.{may, laid}
 use Rattle.board.specs.Tree.{tree}
@@ -14,7 +13,7 @@ use Rattle.board.proofs.Outcomes.{laid_fewer}
 use Rattle.board.proofs.Trees.{in_tree, of_tree}
 use Rattle.rooms.specs.Games.{through}
 use Rattle.positions.specs.Answers.{Listed, PositionOf, FormedRoom, RoomAnswer, PositionsLaw}
-use Rattle.positions.specs.Reach.{Comes, already, after, game_at, Leads}
+use Rattle.positions.specs.Reach.{Comes, already, after, game_at}
 use Rattle.positions.specs.Sets.{chosen, position}
 use Rattle.positions.specs.Values.{room_squares, moves_of, GroundOf, full_of, game_of_set}
 use Rattle.positions.specs.Forming.{LeadsTo, KindOf, MemoryOf, Went, Failed}
@@ -24,7 +23,6 @@ use Rattle.positions.proofs.Growth.{grows_as}
 use Rattle.positions.proofs.Forming.{noted_form, noted_on}
 use Rattle.forms.specs.declared.rows.Form.{Form}
 use Rattle.forms.specs.Meaning.{meaning}
-use Rattle.forms.specs.Rows.{Rising}
 use Rattle.forms.proofs.Risings.{has_none}
 use Rattle.canonical.specs.Reducing.{Inserted}
 use Rattle.canonical.specs.declared.canonical.Refusal.{Refusal}

@@ -1,23 +1,20 @@
 -- The games of a room's positions: their options are the games of the positions after a move.
-use Rattle.std.proofs.Common.{◌≡◌, ℕ, ◌-◌, ◌^◌, ◌<◌, ◌≤◌, Bool, true, false, ◌⊎◌, List, ◌∷◌, length, get_or, MatchBool, sym, refl, ap, ◌∙◌, subst, inl, inr, ⊎_elim, arith}
-use lib.Bits.{bit_and}
+use Rattle.std.proofs.Common.{◌≡◌, ℕ, ◌-◌, ◌^◌, ◌<◌, ◌≤◌, true, List, ◌∷◌, length, get_or, sym, ap, ◌∙◌, subst, ⊎_elim, arith}
 use lib.Count.{ones}
 use Rattle.std.specs.List.{ContainsAt as Has}
 use Rattle.std.proofs.lemmas.Bool.{cases_Bool, both_ways}
 use Rattle.std.proofs.lemmas.Bool.Decides.{when_false}
 use Rattle.games.specs.Game.{Game, options, In}
-use Rattle.board.specs.Grid.{Grid, Side, free, free_count}
+use Rattle.board.specs.Grid.{Grid, Side, free_count}
 use Rattle.board.specs.Moves.{may, laid}
 use Rattle.board.specs.Tree.{tree}
 use Rattle.board.proofs.Covering.{covers_from}
 use Rattle.board.proofs.Trees.{in_tree, of_tree}
-use Rattle.rooms.specs.Walks.{Rise}
 use Rattle.rooms.proofs.Lists.{has_here}
 use Rattle.rooms.proofs.Through.{covered, seen_fewer}
 use Rattle.positions.specs.Sets.{has, chosen, position, inside, Holds, Move, Ground}
 use Rattle.positions.specs.Reach.{Moves, Comes, already, after, game_at, set_at, Can, Leads, stay, move}
 use Rattle.positions.proofs.Bits.{has_zero, ones_left, ones_some}
-use Rattle.positions.proofs.Choices.{At}
 use Rattle.positions.proofs.Steps.{has_covered, may_at, laid_at, place_at, inside_at, part_at}
 
 -- a rising room of free squares, and its moves

@@ -1,5 +1,5 @@
 -- The moves of a room at a position: which there are, and where they lead.
-use Rattle.std.proofs.Common.{◌≡◌, ℕ, zero, suc, ◌+◌, ◌-◌, ◌^◌, ◌<◌, ◌≤◌, Bool, true, false, not, ◌&&◌, eqb, ltb, ◌⊎◌, List, [], ◌∷◌, length, get_or, MatchBool, sym, refl, ap, ◌∙◌, subst, inl, inr, ⊎_elim, arith}
+use Rattle.std.proofs.Common.{◌≡◌, ℕ, ◌-◌, ◌^◌, ◌<◌, Bool, true, false, not, ◌&&◌, ltb, List, [], ◌∷◌, length, get_or, sym, refl, ap, ◌∙◌, subst, ⊎_elim}
 use lib.Bits.{bit_and}
 use Rattle.std.specs.List.{ContainsAt as Has, AllByRecursion as All}
 use Rattle.std.proofs.ByRecursion.{all-has, has_get_or}
@@ -8,9 +8,9 @@ use Rattle.std.proofs.lemmas.Bool.Decides.{when_true, same_from_decides}
 use Rattle.board.specs.Grid.{Grid, Side, free}
 use Rattle.board.specs.Moves.{covers, fits, each_free, may, laid}
 use Rattle.board.proofs.Covering.{covers_from}
-use Rattle.rooms.specs.Games.{among, seen_from, through}
+use Rattle.rooms.specs.Games.{among, through}
 use Rattle.rooms.specs.Walks.{Rise}
-use Rattle.rooms.proofs.Lists.{has_here, has_there, all_by_has}
+use Rattle.rooms.proofs.Lists.{all_by_has}
 use Rattle.rooms.proofs.Through.{among_has, has_among, free_through, covered, to_through, of_through, laid_through, same_grid, at_taken, length_seen, length_taken}
 use Rattle.positions.specs.Sets.{has, chosen, position, all_among, inside, Holds, Move}
 use Rattle.positions.proofs.Bits.{has_in, has_left, part_from}

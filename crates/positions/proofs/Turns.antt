@@ -1,7 +1,6 @@
 -- One turn of finding a position's form, in the terms of the program's room.
-use Rattle.std.proofs.Common.{◌≡◌, ℕ, suc, ◌+◌, ◌-◌, ◌^◌, ◌<◌, ◌≤◌, true, false, ◌⊎◌, List, length, get_or, take, set, sym, refl, ap, ◌∙◌, subst, inl, inr, ⊎_elim, arith}
-use Rattle.std.specs.List.{ContainsAt as Has, AllByRecursion as All}
-use Rattle.games.specs.Game.{Side, Game, options, In}
+use Rattle.std.proofs.Common.{◌≡◌, ℕ, suc, ◌+◌, ◌-◌, ◌<◌, ◌≤◌, true, false, List, length, get_or, take, set, sym, refl, ap, ◌∙◌, subst, ⊎_elim, arith}
+use Rattle.games.specs.Game.{Side}
 use Rattle.games.specs.Order.{Equal}
 use Rattle.games.proofs.Sides.{equal_refl, equal_sym, equal_trans}
 use Rattle.std.proofs.lemmas.List.{get_or-set_same, get_or-set_other}
@@ -18,15 +17,14 @@ use Rattle.canonical.specs.Answers.{Answered, Refused}
 use Rattle.canonical.specs.Reducing.{Inserted}
 use Rattle.canonical.specs.declared.canonical.Refusal.{Refusal}
 use Rattle.canonical.specs.declared.canonical.Refusal.TheVariants.{Full, Wide, NoMemory}
-use Rattle.positions.specs.Growing.{Grows, Overfull, IsTooWide}
-use Rattle.positions.specs.Memory.{Family, Noted}
-use Rattle.positions.specs.Reach.{Can}
+use Rattle.positions.specs.Growing.{Grows, Overfull}
+use Rattle.positions.specs.Memory.{Family}
 use Rattle.positions.specs.Values.{room_squares, moves_of, GroundOf, move_set, CanOf, full_of, game_of_set}
 use Rattle.positions.specs.Forming.{LeadsTo, KindOf, MemoryOf, RowOf, Went, Failed}
 use Rattle.positions.specs.declared.room.RoomMoves.{RoomMoves}
 use Rattle.positions.proofs.Growth.{grows_none, grows_on, overfull_on}
 use Rattle.positions.proofs.Played.{in_game, of_game}
-use Rattle.positions.proofs.Forming.{leads_one, remembers_kept, remembers_more, row_kept, row_more, set_game, children_noted}
+use Rattle.positions.proofs.Forming.{remembers_kept, remembers_more, row_kept, row_more, set_game, children_noted}
 
 -- the games of a room's positions are a family
 pub family_of : (r : RoomMoves) → GroundOf r → Family (length (room_squares r)) (moves_of r) (game_of_set r)

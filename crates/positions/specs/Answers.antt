@@ -1,5 +1,5 @@
 -- The forms of a room, in the words of the rules: what the boards that planks make of it are worth.
-use Rattle.std.specs.Prelude.{◌≡◌, ℕ, suc, ◌<◌, ◌≤◌, ◌↔◌, List, length, take, Ok, Err, vec_items, Result, slice_index}
+use Rattle.std.specs.Prelude.{◌≡◌, ℕ, suc, ◌<◌, ◌≤◌, List, take, Ok, Err, vec_items, Result, slice_index}
 use Rattle.std.specs.List.{ContainsAt as Has}
 use Rattle.games.specs.Game.{Game, Reached}
 use Rattle.games.specs.Order.{Equal}

@@ -1,5 +1,5 @@
 -- What finding the form of a position answers, and what lent memory holds after.
-use Rattle.std.specs.Prelude.{◌≡◌, ℕ, suc, ◌<◌, List, length, Ok, Err, vec_items, Result, slice_index}
+use Rattle.std.specs.Prelude.{◌≡◌, ℕ, suc, List, length, Ok, Err, vec_items, Result, slice_index}
 use Rattle.games.specs.Game.{Game}
 use Rattle.board.specs.Grid.{Side}
 use Rattle.forms.specs.declared.rows.Form.{Form}

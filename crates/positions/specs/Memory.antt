@@ -1,5 +1,5 @@
 -- What is remembered of the positions of a room: for each set 0, or one more than the number of its form.
-use Rattle.std.specs.Prelude.{◌≡◌, ℕ, suc, ◌-◌, ◌<◌, ◌≤◌, List, take, slice_index}
+use Rattle.std.specs.Prelude.{◌≡◌, ℕ, suc, ◌-◌, ◌<◌, List, take, slice_index}
 use Rattle.games.specs.Game.{Side, Game, options, In}
 use Rattle.games.specs.Order.{Equal}
 use Rattle.forms.specs.declared.rows.Form.{Form}

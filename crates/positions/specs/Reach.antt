@@ -1,7 +1,6 @@
 -- What planks make of a room: its positions, and their games.
-use Rattle.std.specs.Prelude.{◌≡◌, ℕ, ◌-◌, ◌<◌, true, ◌↔◌, List, length, bit_and, slice_index}
+use Rattle.std.specs.Prelude.{◌≡◌, ℕ, ◌-◌, ◌<◌, true, List, bit_and, slice_index}
 use Rattle.games.specs.Game.{Game}
-use Rattle.games.specs.Order.{Equal}
 use Rattle.board.specs.Grid.{Grid, Side, free_count}
 use Rattle.board.specs.Moves.{may, laid}
 use Rattle.board.specs.Tree.{tree}

@@ -1,11 +1,11 @@
 -- What the program's room with its moves stands for.
 use Rattle.std.specs.Prelude.{ℕ, ◌-◌, ◌^◌, List, length}
 use Rattle.games.specs.Game.{Game}
-use Rattle.board.specs.Grid.{Grid, Side}
+use Rattle.board.specs.Grid.{Side}
 use Rattle.board.specs.Values.{grid_of}
 use Rattle.rooms.specs.Values.{squares_of}
 use Rattle.positions.specs.Sets.{Ground}
-use Rattle.positions.specs.Reach.{Moves, set_at, Can, Leads, game_at}
+use Rattle.positions.specs.Reach.{Moves, set_at, Can, game_at}
 use Rattle.positions.specs.declared.room.RoomMoves.{RoomMoves}
 
 -- the squares of the room

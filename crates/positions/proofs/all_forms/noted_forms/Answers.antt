@@ -10,10 +10,10 @@ pub loop-noted-preserved-then-noted-eq0 : goal.loop-noted-preserved-then-noted-e
 loop-noted-preserved-then-noted-eq0 c = listed_skip c.args.sets.now _ _ c.if-noted-eq0.true c.loop-noted.invariant
 
 pub loop-noted-preserved : goal.loop-noted-preserved
-loop-noted-preserved c = listed_more c.args.sets.now _ _ _ _ (let ne = c.if-noted-eq0.false in omega arith) c.loop-noted.invariant c.in-ok-insert.ensures
+loop-noted-preserved c = listed_more c.args.sets.now _ _ _ _ (let ne = c.if-noted-eq0.false in omega arith) c.loop-noted.invariant c.in_ok-insert.ensures
 
-pub overflow-cast-noted : goal.overflow-cast-noted
-overflow-cast-noted c = let f = c.requires c.loop-noted.noted-index in omega arith
+pub overflow_cast-noted : goal.overflow_cast-noted
+overflow_cast-noted c = let f = c.requires c.loop-noted.noted-index in omega arith
 
 pub returns : goal.returns
 returns c =

@@ -1,4 +1,4 @@
-use Rattle.std.proofs.Common.{length, get_or, vec_items, sym, refl, ap, ◌∙◌, subst, arith}
+use Rattle.std.proofs.Common.{length, get_or, vec_items, sym, ap, ◌∙◌, subst, arith}
 use Rattle.positions.specs.Forming.{LeadsTo}
 use Rattle.positions.specs.Reach.{stay}
 use Rattle.positions.proofs.Law.{forgets, formed_room, not_formed, sets_long}
@@ -20,10 +20,10 @@ returns-in-Err c = not_formed c.args.room.now c.requires.ground _ _ _ _ _ _ c.in
 pub returns : goal.returns
 returns c =
     let found = c.in-Ok.ensures in
-    formed_room c.args.room.now c.requires.ground _ _ _ _ _ c.clear.new.sets c.form.new.positions _ _ (length c.form.new.positions) (vec_items c.in-Ok-noted-forms.all)
-    (found.0, ap (λ x. get_or c.form.new.positions x 0) (sym c.full-full.ensures) ∙ found.1) (omega arith) c.in-Ok-noted-forms.ensures
+    formed_room c.args.room.now c.requires.ground _ _ _ _ _ c.clear.new.sets c.form.new.positions _ _ (length c.form.new.positions) (vec_items c.in-Ok-noted_forms.all)
+    (found.0, ap (λ x. get_or c.form.new.positions x 0) (sym c.full-full.ensures) ∙ found.1) (omega arith) c.in-Ok-noted_forms.ensures
 
-pub noted-forms-requires : goal.noted-forms-requires
-noted-forms-requires c k =
+pub noted_forms-requires : goal.noted_forms-requires
+noted_forms-requires c k =
     let memory = c.in-Ok.ensures.0.memory in
     noted_fits c.args.room.now _ _ _ c.form.new.positions memory c.in-Ok.ensures.0.grows.table.within c.in-Ok.ensures.0.grows.table.size k

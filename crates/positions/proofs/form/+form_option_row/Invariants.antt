@@ -7,10 +7,10 @@ use Rattle.positions.proofs.form.+form_option_row.Given as goal
 abbrev pub decreases-form : goal.decreases-form
 decreases-form l = 2 * ones l.set + 1
 
-abbrev pub decreases-option-row : goal.decreases-option-row
-decreases-option-row l = 2 * ones l.set
+abbrev pub decreases-option_row : goal.decreases-option_row
+decreases-option_row l = 2 * ones l.set
 
-abbrev pub invariant-option-row-loop-i : goal.invariant-option-row-loop-i
-invariant-option-row-loop-i l =
+abbrev pub invariant-option_row-loop-i : goal.invariant-option_row-loop-i
+invariant-option_row-loop-i l =
     Went l.room l.initial.forms l.initial.options l.used l.initial.positions l.forms l.options l.grown l.positions
     × RowOf l.room l.set (side_of l.side) l.i l.forms l.options l.grown l.positions (vec_items l.row)
