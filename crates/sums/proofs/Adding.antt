@@ -1,20 +1,18 @@
 -- The sums of pairs, step by step.
-use Rattle.std.proofs.Common.{◌≡◌, ℕ, ◌+◌, ◌<◌, ◌≤◌, ◌⊎◌, List, [], ◌∷◌, length, get_or, take, Ok, Err, Result, sym, refl, ap, ◌∙◌, subst, inl, inr, ⊎_elim, arith}
+use Rattle.std.proofs.Common.{◌≡◌, ℕ, ◌+◌, ◌<◌, ◌⊎◌, List, length, get_or, take, Ok, Err, sym, refl, ap, ◌∙◌, subst, inl, inr, ⊎_elim, arith}
 use Rattle.std.specs.List.{ContainsAt as Has, AllByRecursion as All}
-use Rattle.std.proofs.lemmas.List.{take_all}
-use Rattle.std.proofs.ByRecursion.{All-get_or, All-take, all-has}
+use Rattle.std.proofs.ByRecursion.{All-get_or, all-has}
 use Rattle.games.specs.Game.{Game}
 use Rattle.games.specs.Count.{Between}
 use Rattle.forms.specs.declared.rows.Form.{Form}
 use Rattle.forms.specs.Meaning.{meaning}
 use Rattle.forms.specs.Links.{Table}
-use Rattle.forms.proofs.Risings.{has_none}
 use Rattle.canonical.specs.declared.canonical.Placed.{Placed}
 use Rattle.canonical.specs.declared.canonical.Refusal.{Refusal}
 use Rattle.canonical.specs.declared.canonical.Refusal.TheVariants.{Full, Wide, NoMemory}
 use Rattle.canonical.proofs.Inserting.{has_take}
 use Rattle.positions.proofs.Growth.{grows_as, grows_none, grows_on, grows_far, grows_meaning}
-use Rattle.sums.specs.Sums.{Adds, HoldsRight, SummedUp, Stopped}
+use Rattle.sums.specs.Sums.{Adds, SummedUp, Stopped}
 use Rattle.sums.specs.Pairing.{OfPairs, BesideRow, BesideRows, SumsAll, SumsAnswer}
 use Rattle.sums.proofs.Wider.{stopped_as, stopped_on}
 use Rattle.sums.proofs.Marking.{has_more, has_last, has_more_cases}

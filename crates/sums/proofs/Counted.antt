@@ -1,19 +1,16 @@
 -- What the row of rooms tells: who wins, the count, and how wide forms are.
 use Rattle.sums.specs.Sums.{Stopped}
-use Rattle.std.proofs.Common.{◌≡◌, ℕ, zero, suc, ◌+◌, ◌<◌, ◌≤◌, ◌⊎◌, ◌↔◌, List, [], ◌∷◌, ◌++◌, length, get_or, take, drop, Ok, Err, sym, refl, ap, ◌∙◌, subst, inl, inr, ⊎_elim, arith}
-use Rattle.std.specs.List.{ContainsAt as Has}
+use Rattle.std.proofs.Common.{◌≡◌, ℕ, zero, suc, ◌<◌, ◌≤◌, List, length, get_or, take, drop, Err, sym, refl, ap, ◌∙◌, subst, arith}
 use Rattle.std.proofs.lemmas.List.{length-take}
-use Rattle.std.proofs.lemmas.Bool.{cases_lt}
-use Rattle.games.specs.Game.{Side, Game, options, In, empty}
+use Rattle.games.specs.Game.{Side, Game, empty}
 use Rattle.games.specs.Order.{Equal}
 use Rattle.games.specs.Canonical.{Canonical, HasForm}
-use Rattle.games.specs.Count.{Met, at_start, at_game, further, Member, Count, Ahead, Wide, SumTells, NotWide, CountLeast, CountMost}
+use Rattle.games.specs.Count.{Met, at_start, at_game, further, Member, Count, Wide, SumTells, NotWide, CountLeast, CountMost}
 use Rattle.games.proofs.Sides.{equal_refl, equal_sym, equal_trans}
 use Rattle.games.proofs.Reduce.{has_form}
 use Rattle.games.proofs.Tells.{sum_tells}
 use Rattle.games.proofs.Counting.{count_least, count_most, not_wide}
 use Rattle.board.specs.Grid.{Grid}
-use Rattle.board.specs.Rules.{Wins}
 use Rattle.rooms.specs.Games.{games_of}
 use Rattle.rooms.specs.Values.{SmallRooms}
 use Rattle.forms.specs.declared.rows.Form.{Form}
@@ -26,8 +23,8 @@ use Rattle.forms.proofs.Meanings.{from_row}
 use Rattle.forms.proofs.Numbers.{same_number}
 use Rattle.canonical.specs.declared.canonical.Refusal.{Refusal}
 use Rattle.canonical.specs.declared.canonical.Refusal.TheVariants.{Full, Wide as TooWide, NoMemory}
-use Rattle.positions.specs.Growing.{Grows, Overfull, IsTooWide}
-use Rattle.sums.specs.Counting.{InRow, RowIsFormed, RowFull, RoomsAnswer}
+use Rattle.positions.specs.Growing.{Grows, Overfull}
+use Rattle.sums.specs.Counting.{InRow, RowIsFormed, RoomsAnswer}
 use Rattle.sums.proofs.Meeting.{form_canonical}
 use Rattle.sums.proofs.Lining.{form_empty}
 

@@ -1,14 +1,14 @@
 -- Rooms in a row, one after another.
 use Rattle.sums.specs.Sums.{Stopped}
-use Rattle.std.proofs.Common.{◌≡◌, ℕ, zero, suc, ◌+◌, ◌<◌, ◌≤◌, ◌⊎◌, List, [], ◌∷◌, ◌++◌, length, get_or, take, drop, sym, refl, ap, ◌∙◌, subst, inl, inr, ⊎_elim, arith}
-use Rattle.std.proofs.lemmas.List.{take_more, take-append-drop, length_push, get_or_push, get_or_append_left}
+use Rattle.std.proofs.Common.{◌≡◌, ℕ, ◌+◌, ◌<◌, ◌≤◌, List, [], ◌∷◌, ◌++◌, length, get_or, take, drop, sym, refl, ap, ◌∙◌, subst, inr, ⊎_elim, arith}
+use Rattle.std.proofs.lemmas.List.{take-append-drop, length_push, get_or_push, get_or_append_left}
 use Rattle.std.proofs.lemmas.Bool.{cases_lt}
 use Rattle.games.specs.Game.{Game, empty}
 use Rattle.games.specs.Order.{Equal}
 use Rattle.games.specs.Sum.{Sum}
 use Rattle.games.specs.Canonical.{Canonical}
 use Rattle.games.specs.Count.{Met, at_start, at_game, further, Summed, nothing, plus, Between, OneMore}
-use Rattle.games.proofs.Sides.{equal_refl, equal_sym, equal_trans}
+use Rattle.games.proofs.Sides.{equal_sym}
 use Rattle.games.proofs.Along.{one_more}
 use Rattle.board.specs.Grid.{Grid}
 use Rattle.rooms.specs.Games.{games_of}
@@ -19,7 +19,6 @@ use Rattle.forms.specs.Links.{Table}
 use Rattle.forms.proofs.Chains.{use_length}
 use Rattle.forms.proofs.Numbers.{first_empty}
 use Rattle.canonical.specs.declared.canonical.Refusal.{Refusal}
-use Rattle.positions.specs.Growing.{Grows}
 use Rattle.positions.proofs.Growth.{grows_as, grows_none, grows_on, grows_far, grows_meaning}
 use Rattle.sums.specs.Rows.{room_game, Joined}
 use Rattle.sums.specs.Counting.{Owns, InRow}

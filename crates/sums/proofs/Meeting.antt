@@ -1,13 +1,13 @@
 -- What one room more brings.
-use Rattle.std.proofs.Common.{◌≡◌, ℕ, ◌+◌, ◌<◌, ◌≤◌, true, false, ◌⊎◌, List, [], ◌∷◌, length, get_or, take, Ok, Err, Result, sym, refl, ap, ◌∙◌, subst, inl, inr, ⊎_elim, arith}
-use Rattle.std.specs.List.{ContainsAt as Has, AllByRecursion as All}
+use Rattle.std.proofs.Common.{◌≡◌, ℕ, ◌<◌, ◌≤◌, true, false, List, take, Ok, Err, sym, refl, subst, arith}
+use Rattle.std.specs.List.{AllByRecursion as All}
 use Rattle.games.specs.Game.{Side, Game, game, none, more, options, In, here, empty, Reached, itself, onward}
 use Rattle.games.specs.Order.{Equal}
 use Rattle.games.specs.Sum.{SumTurns}
 use Rattle.games.specs.Canonical.{Canonical}
 use Rattle.games.specs.Count.{Between, BetweenForms}
 use Rattle.games.proofs.Induction.{ind}
-use Rattle.games.proofs.Sides.{equal_refl, equal_sym, equal_trans}
+use Rattle.games.proofs.Sides.{equal_refl, equal_sym}
 use Rattle.games.proofs.Sums.{sum_turns, with_empty}
 use Rattle.games.proofs.Forms.{reached_trans}
 use Rattle.games.proofs.Along.{adds_equal, adds_one, between_forms}
@@ -26,10 +26,10 @@ use Rattle.canonical.proofs.Thinning.{all_from_has}
 use Rattle.positions.specs.Growing.{Grows}
 use Rattle.positions.specs.Reach.{Comes}
 use Rattle.positions.specs.Answers.{PositionOf, FormedRoom, RoomAnswer, PositionsLaw}
-use Rattle.positions.proofs.Growth.{grows_as, grows_none, grows_on, grows_far, grows_meaning}
+use Rattle.positions.proofs.Growth.{grows_as, grows_on, grows_far, grows_meaning}
 use Rattle.positions.proofs.Law.{positions_law}
-use Rattle.sums.specs.Sums.{Adds, HoldsRight, SummedUp, Stopped}
-use Rattle.sums.specs.Pairing.{OfPairs, BesideRow, BesideRows, SumsAll, SumsAnswer}
+use Rattle.sums.specs.Sums.{HoldsRight, SummedUp, Stopped}
+use Rattle.sums.specs.Pairing.{OfPairs, BesideRows, SumsAll}
 use Rattle.sums.specs.Reaching.{Reaches}
 use Rattle.sums.specs.Rows.{room_game, Joined}
 use Rattle.sums.proofs.Wider.{stopped_as, stopped_on}

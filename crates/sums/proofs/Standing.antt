@@ -1,10 +1,10 @@
 -- Rooms with the same form may stand for each other, and others are told apart.
-use Rattle.std.proofs.Common.{◌≡◌, ℕ, ◌<◌, true, false, ◌⊎◌, List, [], ◌∷◌, length, get_or, take, Some, None, Option, sym, refl, ap, ◌∙◌, subst, inl, inr, arith}
+use Rattle.std.proofs.Common.{◌≡◌, ℕ, ◌<◌, true, false, ◌⊎◌, List, [], ◌∷◌, length, get_or, take, Some, None, Option, sym, subst, inl, inr, arith}
 use Rattle.games.specs.Game.{Game, neg}
 use Rattle.games.specs.Order.{Le, NotLe, Equal}
 use Rattle.games.specs.Play.{Same}
 use Rattle.games.proofs.Compare.{decide}
-use Rattle.games.proofs.Sides.{worse_refl, equal_refl, equal_sym, equal_trans}
+use Rattle.games.proofs.Sides.{worse_refl, equal_sym, equal_trans}
 use Rattle.games.proofs.Stand.{against, equal_same}
 use Rattle.board.specs.Grid.{Grid}
 use Rattle.forms.specs.declared.rows.Form.{Form}
@@ -12,7 +12,7 @@ use Rattle.forms.specs.Meaning.{meaning}
 use Rattle.forms.specs.Links.{Table}
 use Rattle.sums.specs.Rows.{room_game}
 use Rattle.sums.specs.Counting.{Owns}
-use Rattle.sums.specs.Likeness.{FirstSame, ToldApart, Alike, AlikeInPlay}
+use Rattle.sums.specs.Likeness.{FirstSame, ToldApart, AlikeInPlay}
 use Rattle.sums.proofs.Counted.{form_apart}
 
 -- games that are not equal are told apart by one of them with the players exchanged

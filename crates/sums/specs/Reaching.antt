@@ -1,5 +1,5 @@
 -- The forms that are reached from a form.
-use Rattle.std.specs.Prelude.{◌≡◌, ℕ, ◌<◌, ◌≤◌, Bool, true, false, ◌⊎◌, ◌↔◌, List, length, slice_index_or}
+use Rattle.std.specs.Prelude.{◌≡◌, ℕ, ◌<◌, Bool, true, false, ◌⊎◌, ◌↔◌, List, length, slice_index_or}
 use Rattle.std.specs.List.{ContainsAt as Has}
 use Rattle.games.specs.Game.{Game, Reached}
 use Rattle.forms.specs.declared.rows.Form.{Form}

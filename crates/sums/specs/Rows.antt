@@ -1,11 +1,11 @@
 -- The rooms of a board beside each other: one room more, and the whole row.
-use Rattle.std.specs.Prelude.{◌≡◌, ℕ, ◌<◌, ◌↔◌, List, [], length, get_or, take, Ok, Err, vec_items, Result}
-use Rattle.games.specs.Game.{Game, empty}
+use Rattle.std.specs.Prelude.{ℕ, ◌<◌, List, take, Ok, Err, Result}
+use Rattle.games.specs.Game.{Game}
 use Rattle.games.specs.Order.{Equal}
-use Rattle.games.specs.Count.{Met, Summed, Between}
+use Rattle.games.specs.Count.{Between}
 use Rattle.board.specs.Grid.{Grid, free_count}
 use Rattle.board.specs.Tree.{tree}
-use Rattle.rooms.specs.Games.{through, games_of}
+use Rattle.rooms.specs.Games.{through}
 use Rattle.forms.specs.declared.rows.Form.{Form}
 use Rattle.forms.specs.Meaning.{meaning}
 use Rattle.canonical.specs.declared.canonical.Refusal.{Refusal}

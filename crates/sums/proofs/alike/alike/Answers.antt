@@ -1,4 +1,4 @@
-use Rattle.std.proofs.Common.{◌≡◌, ℕ, ◌<◌, length, get_or, Some, None, arith}
+use Rattle.std.proofs.Common.{Some, None, arith}
 use Rattle.sums.specs.Likeness.{FirstSame}
 use Rattle.sums.proofs.Standing.{alike_in_play}
 use Rattle.sums.proofs.alike.alike.Goals as goal

@@ -1,17 +1,17 @@
-use Rattle.std.proofs.Common.{◌≡◌, ℕ, ◌<◌, List, get_or, take, sym, subst, arith}
+use Rattle.std.proofs.Common.{◌<◌, subst, arith}
 use Rattle.std.proofs.ByRecursion.{All-get_or, All-weaker}
 use Rattle.std.proofs.lemmas.List.{take_all}
 use Rattle.forms.proofs.Risings.{has_none}
 use Rattle.positions.proofs.Growth.{grows_far}
-use Rattle.sums.specs.Pairing.{OfPairs, BesideRows, SumsAll}
+use Rattle.sums.specs.Pairing.{BesideRows, SumsAll}
 use Rattle.sums.proofs.Adding.{sums_none, rows_more, rows_fail}
 use Rattle.sums.proofs.between.all_sums.Goals as goal
 
 pub loop-x-init : goal.loop-x-init
 loop-x-init c = (sums_none _ (λ g h p. has_none p.1) c.args.forms.now c.args.options.now c.args.used c.requires.table, c.requires.pairs)
 
-pub sums-with-requires : goal.sums-with-requires
-sums-with-requires c =
+pub sums_with-requires : goal.sums_with-requires
+sums_with-requires c =
     let before = c.loop-x.invariant.0 in
     let far = grows_far _ c.args.forms.now c.args.options.now c.args.used c.loop-x.forms c.loop-x.options c.loop-x.grown c.requires.table before.grows in
     let low = All-get_or (λ y. y < c.args.used) c.args.left.now c.loop-x.x-index 0 c.loop-x-test.true c.requires.first in

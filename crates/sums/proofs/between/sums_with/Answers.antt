@@ -1,9 +1,9 @@
-use Rattle.std.proofs.Common.{◌≡◌, ℕ, ◌<◌, List, get_or, take, sym, subst, arith}
+use Rattle.std.proofs.Common.{◌<◌, subst, arith}
 use Rattle.std.proofs.ByRecursion.{All-get_or}
 use Rattle.std.proofs.lemmas.List.{take_all}
 use Rattle.forms.proofs.Risings.{has_none}
 use Rattle.positions.proofs.Growth.{grows_far}
-use Rattle.sums.specs.Pairing.{OfPairs, BesideRow, SumsAll}
+use Rattle.sums.specs.Pairing.{BesideRow, SumsAll}
 use Rattle.sums.proofs.Adding.{sums_none, row_more, row_fail}
 use Rattle.sums.proofs.between.sums_with.Goals as goal
 

@@ -11,34 +11,34 @@ use Rattle.sums.proofs.join.join.Goals as goal
 pub returns-in-Err : goal.returns-in-Err
 returns-in-Err c =
     unformed (meaning (take c.args.used c.args.forms.now) c.args.options.now c.args.t) (grid_of c.args.room.now.board) (room_squares c.args.room.now) c.args.forms.now c.args.options.now c.args.used
-    c.room-forms.new.forms c.room-forms.new.options c.in-Err.e c.in-Err.ensures
+    c.room_forms.new.forms c.room_forms.new.options c.in-Err.e c.in-Err.ensures
 
-pub all-sums-requires : goal.all-sums-requires
-all-sums-requires c =
+pub all_sums-requires : goal.all_sums-requires
+all_sums-requires c =
     let formed = c.in-Ok.ensures in
     record {
       table = formed.grows.table;
-      pairs = holds_kept (PositionOf (grid_of c.args.room.now.board) (room_squares c.args.room.now)) c.args.forms.now c.args.options.now c.args.used c.room-forms.new.forms c.room-forms.new.options c.in-Ok.found.used c.args.pairs.now c.requires.table formed.grows c.requires.pairs;
-      first = reach_known c.room-forms.new.forms c.room-forms.new.options c.in-Ok.found.used c.args.t (vec_items c.in-Ok-reached.reach) c.as-slice.result.now c.as-slice.ensures.value formed.grows.table c.in-Ok-reached.ensures;
-      second = forms_known (grid_of c.args.room.now.board) (room_squares c.args.room.now) c.args.forms.now c.args.options.now c.args.used c.room-forms.new.forms c.room-forms.new.options c.in-Ok.found.own (vec_items c.in-Ok.found.all) c.as-slice-2.result.now c.in-Ok.found.used c.as-slice-2.ensures.value formed;
+      pairs = holds_kept (PositionOf (grid_of c.args.room.now.board) (room_squares c.args.room.now)) c.args.forms.now c.args.options.now c.args.used c.room_forms.new.forms c.room_forms.new.options c.in-Ok.found.used c.args.pairs.now c.requires.table formed.grows c.requires.pairs;
+      first = reach_known c.room_forms.new.forms c.room_forms.new.options c.in-Ok.found.used c.args.t (vec_items c.in-Ok-reached.reach) c.as_slice.result.now c.as_slice.ensures.value formed.grows.table c.in-Ok-reached.ensures;
+      second = forms_known (grid_of c.args.room.now.board) (room_squares c.args.room.now) c.args.forms.now c.args.options.now c.args.used c.room_forms.new.forms c.room_forms.new.options c.in-Ok.found.own (vec_items c.in-Ok.found.all) c.as_slice-2.result.now c.in-Ok.found.used c.as_slice-2.ensures.value formed;
     }
 
-pub returns-in-Err-all-sums : goal.returns-in-Err-all-sums
-returns-in-Err-all-sums c =
+pub returns-in-Err-all_sums : goal.returns-in-Err-all_sums
+returns-in-Err-all_sums c =
     let b = grid_of c.args.room.now.board in
     let r = room_squares c.args.room.now in
     let fs = c.args.forms.now in
     let os = c.args.options.now in
     let n = c.args.used in
-    let gs = c.room-forms.new.forms in
-    let ps = c.room-forms.new.options in
+    let gs = c.room_forms.new.forms in
+    let ps = c.room_forms.new.options in
     let own = c.in-Ok.found.own in
     let u = c.in-Ok.found.used in
-    let xs = c.as-slice.result.now in
-    let all = c.as-slice-2.result.now in
-    let formed = subst (λ l. FormedRoom b r fs os n gs ps own l u) (sym c.as-slice-2.ensures.value) c.in-Ok.ensures in
-    let reach = subst (Reaches (take u gs) ps c.args.t) (sym c.as-slice.ensures.value) c.in-Ok-reached.ensures in
-    unpaired b r fs os n c.requires.table c.args.t c.requires.known gs ps own all u formed xs reach c.all-sums.new.forms c.all-sums.new.options c.in-Err-all-sums.e c.in-Err-all-sums.ensures
+    let xs = c.as_slice.result.now in
+    let all = c.as_slice-2.result.now in
+    let formed = subst (λ l. FormedRoom b r fs os n gs ps own l u) (sym c.as_slice-2.ensures.value) c.in-Ok.ensures in
+    let reach = subst (Reaches (take u gs) ps c.args.t) (sym c.as_slice.ensures.value) c.in-Ok-reached.ensures in
+    unpaired b r fs os n c.requires.table c.args.t c.requires.known gs ps own all u formed xs reach c.all_sums.new.forms c.all_sums.new.options c.in-Err-all_sums.e c.in-Err-all_sums.ensures
 
 pub returns-in-Ok-sum : goal.returns-in-Ok-sum
 returns-in-Ok-sum c =
@@ -47,15 +47,15 @@ returns-in-Ok-sum c =
     let fs = c.args.forms.now in
     let os = c.args.options.now in
     let n = c.args.used in
-    let gs = c.room-forms.new.forms in
-    let ps = c.room-forms.new.options in
+    let gs = c.room_forms.new.forms in
+    let ps = c.room_forms.new.options in
     let own = c.in-Ok.found.own in
     let u = c.in-Ok.found.used in
-    let xs = c.as-slice.result.now in
-    let all = c.as-slice-2.result.now in
-    let formed = subst (λ l. FormedRoom b r fs os n gs ps own l u) (sym c.as-slice-2.ensures.value) c.in-Ok.ensures in
-    let reach = subst (Reaches (take u gs) ps c.args.t) (sym c.as-slice.ensures.value) c.in-Ok-reached.ensures in
-    joined b r fs os n c.requires.table c.args.t c.requires.known gs ps own all u formed xs reach c.all-sums.new.forms c.all-sums.new.options c.in-Ok-all-sums.grown c.in-Ok-all-sums.ensures.0
+    let xs = c.as_slice.result.now in
+    let all = c.as_slice-2.result.now in
+    let formed = subst (λ l. FormedRoom b r fs os n gs ps own l u) (sym c.as_slice-2.ensures.value) c.in-Ok.ensures in
+    let reach = subst (Reaches (take u gs) ps c.args.t) (sym c.as_slice.ensures.value) c.in-Ok-reached.ensures in
+    joined b r fs os n c.requires.table c.args.t c.requires.known gs ps own all u formed xs reach c.all_sums.new.forms c.all_sums.new.options c.in-Ok-all_sums.grown c.in-Ok-all_sums.ensures.0
     c.sum.new.forms c.sum.new.options c.sum.new.pairs c.in-Ok-sum.next c.in-Ok-sum.ensures
 
 pub returns : goal.returns
@@ -65,13 +65,13 @@ returns c =
     let fs = c.args.forms.now in
     let os = c.args.options.now in
     let n = c.args.used in
-    let gs = c.room-forms.new.forms in
-    let ps = c.room-forms.new.options in
+    let gs = c.room_forms.new.forms in
+    let ps = c.room_forms.new.options in
     let own = c.in-Ok.found.own in
     let u = c.in-Ok.found.used in
-    let xs = c.as-slice.result.now in
-    let all = c.as-slice-2.result.now in
-    let formed = subst (λ l. FormedRoom b r fs os n gs ps own l u) (sym c.as-slice-2.ensures.value) c.in-Ok.ensures in
-    let reach = subst (Reaches (take u gs) ps c.args.t) (sym c.as-slice.ensures.value) c.in-Ok-reached.ensures in
-    unsummed b r fs os n c.requires.table c.args.t c.requires.known gs ps own all u formed xs reach c.all-sums.new.forms c.all-sums.new.options c.in-Ok-all-sums.grown c.in-Ok-all-sums.ensures.0
+    let xs = c.as_slice.result.now in
+    let all = c.as_slice-2.result.now in
+    let formed = subst (λ l. FormedRoom b r fs os n gs ps own l u) (sym c.as_slice-2.ensures.value) c.in-Ok.ensures in
+    let reach = subst (Reaches (take u gs) ps c.args.t) (sym c.as_slice.ensures.value) c.in-Ok-reached.ensures in
+    unsummed b r fs os n c.requires.table c.args.t c.requires.known gs ps own all u formed xs reach c.all_sums.new.forms c.all_sums.new.options c.in-Ok-all_sums.grown c.in-Ok-all_sums.ensures.0
     c.sum.new.forms c.sum.new.options c.sum.new.pairs c.in-Err-sum.e c.in-Err-sum.ensures

@@ -1,4 +1,4 @@
-use Rattle.std.proofs.Common.{◌<◌, length, get_or, sym, arith}
+use Rattle.std.proofs.Common.{◌<◌, length, arith}
 use Rattle.std.proofs.ByRecursion.{All-get_or}
 use Rattle.sums.proofs.Marking.{marks_more, marks_all}
 use Rattle.sums.proofs.reach.mark.Goals as goal

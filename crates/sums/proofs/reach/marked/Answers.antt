@@ -1,4 +1,4 @@
-use Rattle.std.proofs.Common.{◌≡◌, ◌+◌, vec_items, sym, subst, arith}
+use Rattle.std.proofs.Common.{◌+◌, vec_items, sym, subst, arith}
 use Rattle.sums.proofs.Marking.{Listing, listing_none, listing_skip, listing_more, listing_all}
 use Rattle.sums.proofs.reach.marked.Goals as goal
 
@@ -10,7 +10,7 @@ loop-i-preserved-then-not-mark c = listing_skip c.args.marks.now c.loop-i.i (vec
 
 pub loop-i-preserved : goal.loop-i-preserved
 loop-i-preserved c =
-    subst (Listing c.args.marks.now (c.loop-i.i + 1)) (sym c.in-ok-push.ensures.items)
+    subst (Listing c.args.marks.now (c.loop-i.i + 1)) (sym c.in_ok-push.ensures.items)
     (listing_more c.args.marks.now c.loop-i.i (vec_items c.loop-i.row) c.if-not-mark.false c.loop-i.invariant)
 
 pub returns : goal.returns

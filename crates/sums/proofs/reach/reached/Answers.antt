@@ -1,21 +1,21 @@
-use Rattle.std.proofs.Common.{◌≡◌, ◌+◌, ◌≤◌, true, false, vec_items, sym, refl, ◌∙◌, subst, arith}
+use Rattle.std.proofs.Common.{true, false, vec_items, refl, ◌∙◌, arith}
 use Rattle.std.proofs.lemmas.Result.{IfOk-weaker}
 use Rattle.sums.specs.Reaching.{ListsMarked, Reaches}
-use Rattle.sums.proofs.Marking.{Marking, marking_start, marking_skip, marking_more, options_low, reaches}
+use Rattle.sums.proofs.Marking.{marking_start, marking_skip, marking_more, options_low, reaches}
 use Rattle.sums.proofs.reach.reached.Goals as goal
 
-pub overflow-add-k : goal.overflow-add-k
-overflow-add-k c = let a = c.requires.few in let b = c.requires.known in omega arith
+pub overflow_add-k : goal.overflow_add-k
+overflow_add-k c = let a = c.requires.few in let b = c.requires.known in omega arith
 
 pub loop-k-init : goal.loop-k-init
 loop-k-init c =
-    let made = c.in-ok-held.ensures in
-    let long = c.as-mut-slice-marks.ensures.len in
+    let made = c.in_ok-held.ensures in
+    let long = c.as_mut_slice-marks.ensures.len in
     let far = made.len in
-    marking_start c.args.forms.now c.args.options.now c.args.t c.as-mut-slice-marks.result.now (c.as-mut-slice-marks.ensures.value ∙ made.items-if-clones-equal (λ y e. e)) (omega arith)
+    marking_start c.args.forms.now c.args.options.now c.args.t c.as_mut_slice-marks.result.now (c.as_mut_slice-marks.ensures.value ∙ made.items_if_clones_equal (λ y e. e)) (omega arith)
 
-pub overflow-cast-k : goal.overflow-cast-k
-overflow-cast-k c = let a = c.requires.few in let b = c.requires.known in let l = c.loop-k.invariant.low in omega arith
+pub overflow_cast-k : goal.overflow_cast-k
+overflow_cast-k c = let a = c.requires.few in let b = c.requires.known in let l = c.loop-k.invariant.low in omega arith
 
 pub bounds-marks-k : goal.bounds-marks-k
 bounds-marks-k c = let l = c.loop-k.invariant.low in let m = c.loop-k.invariant.long in omega arith

@@ -9,7 +9,7 @@ use Rattle.sums.proofs.Holding.{recalled}
 use Rattle.sums.proofs.Gathering.{gathered_none, below, row_same, step_more, step_fails, step_all}
 use Rattle.sums.proofs.Summing.{both_moves, other_fails, both_rows, later_fails, rows_known, placed, unplaced, summed}
 use Rattle.sums.proofs.sum.+moves_step_sum.Goals as goal
-use Rattle.sums.proofs.sum.+moves_step_sum.Goals.{step-After-row, sum-After-as-slice-2}
+use Rattle.sums.proofs.sum.+moves_step_sum.Goals.{step-After-row, sum-After-as_slice-2}
 
 pub moves-returns-in-Ok-step : goal.moves-returns-in-Ok-step
 moves-returns-in-Ok-step t c =
@@ -79,13 +79,13 @@ sum-returns-in-Err-moves t c =
     _ _ _ _ c.in-Ok.ensures.0 _ _ _ c.in-Err-moves.ensures
 
 -- the two rows, and how the table grew
-rows : (t : ℕ) (c : sum-After-as-slice-2 t) →
+rows : (t : ℕ) (c : sum-After-as_slice-2 t) →
     Grew (Between (meaning (take c.args.used c.args.forms.now) c.args.options.now c.args.x) (meaning (take c.args.used c.args.forms.now) c.args.options.now c.args.y))
     c.args.forms.now c.args.options.now c.args.used c.moves-2.new.forms c.moves-2.new.options c.in-Ok-moves.row.used c.moves-2.new.pairs
     × SumRow true (meaning (take c.args.used c.args.forms.now) c.args.options.now c.args.x) (meaning (take c.args.used c.args.forms.now) c.args.options.now c.args.y)
-    c.moves-2.new.forms c.moves-2.new.options c.in-Ok-moves.row.used c.as-slice.result.now
+    c.moves-2.new.forms c.moves-2.new.options c.in-Ok-moves.row.used c.as_slice.result.now
     × SumRow false (meaning (take c.args.used c.args.forms.now) c.args.options.now c.args.x) (meaning (take c.args.used c.args.forms.now) c.args.options.now c.args.y)
-    c.moves-2.new.forms c.moves-2.new.options c.in-Ok-moves.row.used c.as-slice-2.result.now
+    c.moves-2.new.forms c.moves-2.new.options c.in-Ok-moves.row.used c.as_slice-2.result.now
 rows t c =
     let g = meaning (take c.args.used c.args.forms.now) c.args.options.now c.args.x in
     let h = meaning (take c.args.used c.args.forms.now) c.args.options.now c.args.y in
@@ -93,28 +93,28 @@ rows t c =
     both_rows c.args.forms.now c.args.options.now c.args.used c.args.x c.args.y c.requires.table c.requires.first c.requires.second
     _ _ _ _ c.in-Ok.ensures.0 _ _ _ _ _ _ c.in-Ok.ensures.1 c.in-Ok-moves.ensures in (
       both.0,
-      subst (SumRow true g h c.moves-2.new.forms c.moves-2.new.options c.in-Ok-moves.row.used) (sym c.as-slice.ensures.value) both.1,
-      subst (SumRow false g h c.moves-2.new.forms c.moves-2.new.options c.in-Ok-moves.row.used) (sym c.as-slice-2.ensures.value) both.2,
+      subst (SumRow true g h c.moves-2.new.forms c.moves-2.new.options c.in-Ok-moves.row.used) (sym c.as_slice.ensures.value) both.1,
+      subst (SumRow false g h c.moves-2.new.forms c.moves-2.new.options c.in-Ok-moves.row.used) (sym c.as_slice-2.ensures.value) both.2,
     )
 
 pub sum-canonical-requires : goal.sum-canonical-requires
 sum-canonical-requires t c =
     let both = rows t c in
-    record { table = both.0.grows.table; rows = rows_known _ _ _ _ _ c.as-slice.result.now c.as-slice-2.result.now both.0.grows.table both.1 both.2 }
+    record { table = both.0.grows.table; rows = rows_known _ _ _ _ _ c.as_slice.result.now c.as_slice-2.result.now both.0.grows.table both.1 both.2 }
 
 pub sum-returns-in-Err-canonical : goal.sum-returns-in-Err-canonical
 sum-returns-in-Err-canonical t c =
-    let both = rows t (goal.at.sum-returns-in-Err-canonical t c).After-as-slice-2 in
+    let both = rows t (goal.at.sum-returns-in-Err-canonical t c).After-as_slice-2 in
     let end = c.in-Err-canonical.ensures in
     stopped_on _ _ _ _ _ _ _ _ _ _ both.0.grows
-    (unplaced _ _ _ _ _ c.as-slice.result.now c.as-slice-2.result.now both.0.grows.table both.1 both.2
+    (unplaced _ _ _ _ _ c.as_slice.result.now c.as_slice-2.result.now both.0.grows.table both.1 both.2
     c.canonical.new.forms c.canonical.new.options c.in-Err-canonical.e end.0 end.1 end.2)
 
 pub sum-returns : goal.sum-returns
 sum-returns t c =
-    let both = rows t (goal.at.sum-returns t c).After-as-slice-2 in
+    let both = rows t (goal.at.sum-returns t c).After-as_slice-2 in
     summed c.args.forms.now c.args.options.now c.args.used c.args.x c.args.y c.requires.table c.requires.first c.requires.second
     _ _ _ _ both.0 c.canonical.new.forms c.canonical.new.options c.keep.new.pairs c.in-Ok-canonical.placed
-    (placed _ _ _ _ _ c.as-slice.result.now c.as-slice-2.result.now both.0.grows.table both.1 both.2
+    (placed _ _ _ _ _ c.as_slice.result.now c.as_slice-2.result.now both.0.grows.table both.1 both.2
     c.canonical.new.forms c.canonical.new.options c.in-Ok-canonical.placed.form c.in-Ok-canonical.placed.used c.canonical.auto.forms c.in-Ok-canonical.ensures)
     c.keep.ensures
