@@ -13,12 +13,12 @@ covers_from w n true p = (p + w, [], refl)
 covers_from w n false p = (p + 1, [], refl)
 
 -- where it fits, each square is a neighbour of one before it
-covers-linked :
+covers_linked :
     (b : Grid) (s : Side) (p : ℕ) → 0 < b.width → fits b.width (length b.cells) s p ≡ true →
     let more = covers_from b.width (length b.cells) s p in Linked b (p ∷ []) (more.0 ∷ more.1)
 unfolding covers_from Edge
-covers-linked b true p wide e = next p (0, omega arith, λ d. refl) (inl (inl refl, λ same. omega arith)) done
-covers-linked b false p wide e =
+covers_linked b true p wide e = next p (0, omega arith, λ d. refl) (inl (inl refl, λ same. omega arith)) done
+covers_linked b false p wide e =
     let inside = ltb-true (p % b.width + 1) b.width (and_parts (ltb (p % b.width + 1) b.width) _ e).0 in
     next p (0, omega arith, λ d. refl) (inl (inr (refl, inside), λ same. omega arith)) done
 
@@ -35,7 +35,7 @@ moves_law b s p wide m =
       second = more.0;
       rest = more.1;
       squares = more.2;
-      linked = covers-linked b s p wide parts.0;
+      linked = covers_linked b s p wide parts.0;
       all = all_are_free b (p ∷ more.0 ∷ more.1) (ap (each_free b) (sym more.2) ∙ parts.1);
     }
 

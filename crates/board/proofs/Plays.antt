@@ -32,10 +32,10 @@ won_again s c r (whatever f) m = subst (λ t. Wins t (laid c (other s) r)) (twic
 
 module _ (j : Judge) (right : Right j) (s : Side) where
   -- on a board that s wins it is told a place that leaves the other side lost, or the board is refused
-  fine-heard :
+  fine_heard :
       (b : Grid) (on : Grid → End) → Wins s b → ((p : ℕ) → Loses (other s) (laid b s p) → Fine s (on (laid b s p))) → Fine s (heard (j s b) s b on)
   unfolding Right Says
-  fine-heard b on won each = go (j s b) refl
+  fine_heard b on won each = go (j s b) refl
     where
       go : (t : Told) → j s b ≡ t → Fine s (heard t s b on)
       go refused e = λ ended. inr refl
@@ -46,9 +46,9 @@ module _ (j : Judge) (right : Right j) (s : Side) where
 
   fine_goes : (rs : List ℕ) (b : Grid) → Wins s b → Fine s (goes j s rs b)
   unfolding goes
-  fine_goes [] b won = fine-heard b (λ c. closing s c) won (λ p l. fine_closing s (laid b s p))
+  fine_goes [] b won = fine_heard b (λ c. closing s c) won (λ p l. fine_closing s (laid b s p))
   fine_goes (r ∷ rs) b won =
-      fine-heard b (λ c. pick (may c (other s) r) (goes j s rs (laid c (other s) r)) (closing s c)) won
+      fine_heard b (λ c. pick (may c (other s) r) (goes j s rs (laid c (other s) r)) (closing s c)) won
       (λ p l.
       let c = laid b s p in
       fine_pick s (may c (other s) r) (goes j s rs (laid c (other s) r)) (closing s c)

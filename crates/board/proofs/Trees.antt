@@ -4,7 +4,7 @@ use Rattle.std.proofs.lemmas.Bool.{both_ways, cases_Bool, cases_order}
 use Rattle.games.specs.Game.{Game, game, Games, none, more, options, In, here, there, empty}
 use Rattle.games.specs.Play.{this, First, with, Second, any}
 use Rattle.games.proofs.Lists.{of, in_of, of_of, in_more}
-use Rattle.games.proofs.Rows.{of-move, not_first_second}
+use Rattle.games.proofs.Rows.{of_move, not_first_second}
 use Rattle.board.specs.Grid.{Grid, Side, other, pick, free_count}
 use Rattle.board.specs.Moves.{may, laid}
 use Rattle.board.specs.Rules.{Wins, by, Loses, whatever, OneOutcome}
@@ -110,7 +110,7 @@ mutual
 
   loses_second : (n : ℕ) {s : Side} {b : Grid} → Loses s b → free_count b.cells ≤ n → Second s (tree n b ∷ [])
   loses_second n {s} {b} (whatever f) h =
-      any (of-move (First (other s)) (of_tree n b s h (λ x. First (other s) (x ∷ [])) (λ p m. wins_first n (f p m) (let less = laid_fewer b s p m in omega arith)))
+      any (of_move (First (other s)) (of_tree n b s h (λ x. First (other s) (x ∷ [])) (λ p m. wins_first n (f p m) (let less = laid_fewer b s p m in omega arith)))
       (λ hs m. elim m [ ]))
 
 pub tree_law : TreeLaw

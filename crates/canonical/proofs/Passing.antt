@@ -5,7 +5,7 @@ use Rattle.std.proofs.lemmas.List.{take_all}
 use Rattle.std.proofs.ByRecursion.{All-more, All-weaker, all-has}
 use Rattle.games.specs.Game.{Side, other, Game, options, In}
 use Rattle.games.specs.Order.{Worse, NotWorse}
-use Rattle.games.proofs.Sides.{worse_own, worse-by, by_reply, not_worse_below}
+use Rattle.games.proofs.Sides.{worse_own, worse_by, by_reply, not_worse_below}
 use Rattle.forms.specs.declared.rows.Form.{Form}
 use Rattle.forms.specs.Rows.{row_of, row_for}
 use Rattle.forms.specs.Meaning.{meaning, given}
@@ -80,7 +80,7 @@ module _ (fs : List Form) (os : List ℕ) (s : Side) (g : Game) where
           serves =
               λ k others has.
               by_reply s k (meaning fs os x) (meaning fs os y) i
-              (worse-by s (meaning fs os y) k
+              (worse_by s (meaning fs os y) k
               (of_row fs os sound (NotWorse s k) s y low
               (All-weaker (λ z. Serves fs os s g new (meaning fs os z)) (λ z. NotWorse s k (meaning fs os z)) (λ z serves. serves k others has) (row_of fs os s y) passing.serves))
               (λ r j. not_worse_below s r (meaning fs os y) g (others r j) p));

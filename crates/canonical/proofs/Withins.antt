@@ -4,7 +4,7 @@ use Rattle.std.specs.List.{ContainsAt as Has, AllByRecursion as All}
 use Rattle.std.proofs.ByRecursion.{All-get_or, all-has, has_get_or}
 use Rattle.games.specs.Game.{Side, other}
 use Rattle.games.specs.Order.{Worse, NotWorse}
-use Rattle.games.proofs.Sides.{turn, by_option, by_reply, worse-by}
+use Rattle.games.proofs.Sides.{turn, by_option, by_reply, worse_by}
 use Rattle.forms.specs.declared.rows.Form.{Form}
 use Rattle.forms.specs.Rows.{row_of, row_for}
 use Rattle.forms.specs.Meaning.{meaning, given}
@@ -32,6 +32,6 @@ module _ (fs : List Form) (os : List ℕ) (sound : Sound fs os) (us ls : List �
       All (λ x. NotWorse s (given fs os us ls) (meaning fs os x)) (row_of fs os s k) → All (λ y. NotWorse s (meaning fs os y) (meaning fs os k)) (row_for (other s) us ls) →
       Worse s (meaning fs os k) (given fs os us ls)
   within_all own replies =
-      worse-by s (meaning fs os k) (given fs os us ls) (of_row fs os sound (NotWorse s (given fs os us ls)) s k low own)
+      worse_by s (meaning fs os k) (given fs os us ls) (of_row fs os sound (NotWorse s (given fs os us ls)) s k low own)
       (of_given fs os us ls (λ y. NotWorse s y (meaning fs os k)) (other s)
       (λ y h. all-has (λ y. NotWorse s (meaning fs os y) (meaning fs os k)) (row_for (other s) us ls) y replies h))

@@ -4,7 +4,7 @@ use Rattle.std.specs.List.{ContainsAt as Has}
 use Rattle.std.proofs.ByRecursion.{all-has}
 use Rattle.games.specs.Game.{Side, Game, options, In}
 use Rattle.games.specs.Order.{Equal}
-use Rattle.games.proofs.Sides.{equal-options}
+use Rattle.games.proofs.Sides.{equal_options}
 use Rattle.forms.specs.declared.rows.Form.{Form}
 use Rattle.forms.specs.Rows.{row_for}
 use Rattle.forms.specs.Meaning.{listed, meaning, given}
@@ -30,9 +30,9 @@ module _ (fs : List Form) (os us ls : List ℕ) where
   of_given P s each y i = let r = from_given s y i in subst P r.2 (each r.0 r.1)
 
   -- a game is equal to it if its options and the rows match
-  pub equal-given :
+  pub equal_given :
       (g : Game) → ((s : Side) (x : Game) → In x (options s g) → (k : ℕ) × Has (row_for s us ls) k × Equal x (meaning fs os k)) →
       ((s : Side) (k : ℕ) → Has (row_for s us ls) k → (x : Game) × In x (options s g) × Equal (meaning fs os k) x) → Equal g (given fs os us ls)
-  equal-given g forth back =
-      equal-options g (given fs os us ls) (λ s x i. let k = forth s x i in (meaning fs os k.0, in_given s k.0 k.1, k.2))
+  equal_given g forth back =
+      equal_options g (given fs os us ls) (λ s x i. let k = forth s x i in (meaning fs os k.0, in_given s k.0 k.1, k.2))
       (λ s. of_given (λ y. (x : Game) × In x (options s g) × Equal y x) s (back s))

@@ -16,10 +16,10 @@ use Rattle.forms.proofs.Meanings.{in_row, from_row}
 
 module _ (fs : List Form) (os : List ℕ) (sound : Sound fs os) where
   -- equal forms have the same numbers in their rows, if this is known of lower forms
-  same-has :
+  same_has :
       (j k : ℕ) → j < length fs → k < length fs → ((x y : ℕ) → x < j → y < k → Equal (meaning fs os x) (meaning fs os y) → x ≡ y) →
       Equal (meaning fs os j) (meaning fs os k) → (s : Side) (z : ℕ) → Has (row_of fs os s j) z → Has (row_of fs os s k) z
-  same-has j k hj hk ih e s z h =
+  same_has j k hj hk ih e s z h =
       let i = all-has (λ x. In (meaning fs os x) (options s (meaning fs os j))) (row_of fs os s j) z (in_row fs os sound s j hj) h in
       let m = matched s (meaning fs os j) (meaning fs os k) (sound.canonical j hj) (sound.canonical k hk) e (meaning fs os z) i in
       let r = from_row fs os sound s k hk m.0 m.1 in
@@ -34,8 +34,8 @@ module _ (fs : List Form) (os : List ℕ) (sound : Sound fs os) where
       sound.apart j k hj hk
       (λ s.
       rising_same (row_of fs os s j) (row_of fs os s k) (sound.rising s j hj) (sound.rising s k hk)
-      (same-has j k hj hk (λ x y p q. same_by n x y (omega arith) (omega arith) (omega arith)) e s)
-      (same-has k j hk hj (λ x y p q. same_by n x y (omega arith) (omega arith) (omega arith)) (equal_sym e) s))
+      (same_has j k hj hk (λ x y p q. same_by n x y (omega arith) (omega arith) (omega arith)) e s)
+      (same_has k j hk hj (λ x y p q. same_by n x y (omega arith) (omega arith) (omega arith)) (equal_sym e) s))
 
   -- no two rows mean equal games
   pub same_number : (j k : ℕ) → j < length fs → k < length fs → Equal (meaning fs os j) (meaning fs os k) → j ≡ k

@@ -6,7 +6,7 @@ use Rattle.games.specs.Game.{Side, Game, options, empty}
 use Rattle.games.specs.Play.{Moved, this, that, First, Same}
 use Rattle.games.specs.Sum.{Sum, sum, Made, in_one, in_two, Found, found, SumStands, SumEqual, SumGroups, SumEmpty}
 use Rattle.games.proofs.Sides.{equal_refl}
-use Rattle.games.proofs.Rows.{of-move, Matches, won-alike}
+use Rattle.games.proofs.Rows.{of_move, Matches, won_alike}
 use Rattle.games.proofs.Stand.{equal_same, same_equal}
 use Rattle.games.proofs.Sums.{with_empty}
 
@@ -16,7 +16,7 @@ data Joint : List Game → List Game → Type 0 where
 
 joint_forth : Matches Joint
 joint_forth s _ _ hs (joint {g = g} {k = k} {gs = gs} (sum a b c)) m =
-    of-move Goal (λ x i. go (b s x i)) (of-move (λ hs. Goal (g ∷ hs)) (λ y i. go (c s y i)) (λ hs m. (k ∷ hs, that m, joint (sum a b c)))) hs m
+    of_move Goal (λ x i. go (b s x i)) (of_move (λ hs. Goal (g ∷ hs)) (λ y i. go (c s y i)) (λ hs m. (k ∷ hs, that m, joint (sum a b c)))) hs m
   where
     Goal : List Game → Type 0
     Goal hs = (hs' : List Game) × Moved s (k ∷ gs) hs' × Joint hs hs'
@@ -26,7 +26,7 @@ joint_forth s _ _ hs (joint {g = g} {k = k} {gs = gs} (sum a b c)) m =
 
 joint_back : Matches (λ gs gs'. Joint gs' gs)
 joint_back s _ _ hs' (joint {g = g} {h = h} {gs = gs} (sum a b c)) m =
-    of-move Goal (λ x i. go (a s x i)) (λ hs m. (g ∷ h ∷ hs, that (that m), joint (sum a b c))) hs' m
+    of_move Goal (λ x i. go (a s x i)) (λ hs m. (g ∷ h ∷ hs, that (that m), joint (sum a b c))) hs' m
   where
     Goal : List Game → Type 0
     Goal hs' = (hs : List Game) × Moved s (g ∷ h ∷ gs) hs × Joint hs hs'
@@ -36,7 +36,7 @@ joint_back s _ _ hs' (joint {g = g} {h = h} {gs = gs} (sum a b c)) m =
     go (in_two y i p) = (g ∷ y ∷ gs, that (this i), joint p)
 
 pub sum_first : (g h k : Game) → Sum g h k → (s : Side) (gs : List Game) → First s (g ∷ h ∷ gs) ↔ First s (k ∷ gs)
-sum_first g h k p s gs = won-alike Joint joint_forth joint_back s (g ∷ h ∷ gs) (k ∷ gs) (joint p)
+sum_first g h k p s gs = won_alike Joint joint_forth joint_back s (g ∷ h ∷ gs) (k ∷ gs) (joint p)
 
 pub sums_stand : SumStands
 unfolding SumStands Same
@@ -60,7 +60,7 @@ swapped_forth (past {g = g} p) _ (that {hs = hs} m) = let r = swapped_forth p hs
 
 pub swapped : (s : Side) {gs hs : List Game} → Swapped gs hs → First s gs ↔ First s hs
 swapped s {gs} {hs} p =
-    won-alike Swapped (λ s gs gs' hs q m. swapped_forth q hs m)
+    won_alike Swapped (λ s gs gs' hs q m. swapped_forth q hs m)
     (λ s gs gs' hs q m. let r = swapped_forth (swapped_back q) hs m in (r.0, r.1, swapped_back r.2)) s gs hs p
 
 pub sum_equal : SumEqual

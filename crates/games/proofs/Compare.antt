@@ -3,7 +3,7 @@ use mathlib.Core.Bool.{true, false}
 use mathlib.Core.Logic.{◌⊎◌, inl, inr}
 use Rattle.games.specs.Game.{Game, options, In}
 use Rattle.games.specs.Order.{Le, le, NotLe, up, down, Order, Decided}
-use Rattle.games.proofs.Induction.{ind, all-or-one, flipped}
+use Rattle.games.proofs.Induction.{ind, all_or_one, flipped}
 
 pub le_refl : (g : Game) → Le g g
 le_refl = ind (λ g. Le g g) (λ g ih. le (λ x i. up x i (ih true x i)) (λ y i. down y i (ih false y i)))
@@ -22,10 +22,10 @@ abbrev Either : Game → Game → Type 0
 Either g h = Le g h ⊎ NotLe g h
 
 -- one game compared with another, where the comparisons of their options with them are known
-decide-step :
+decide_step :
     (g h : Game) → ((x : Game) → In x (options true g) → Either h x) → ((y : Game) → In y (options false h) → Either y g) → Either g h
-decide-step g h lefts rights =
-    go (all-or-one (options true g) (λ x i. flipped (lefts x i))) (all-or-one (options false h) (λ y i. flipped (rights y i)))
+decide_step g h lefts rights =
+    go (all_or_one (options true g) (λ x i. flipped (lefts x i))) (all_or_one (options false h) (λ y i. flipped (rights y i)))
   where
     go :
         ((x : Game) → In x (options true g) → NotLe h x) ⊎ ((x : Game) × In x (options true g) × Le h x) →
@@ -41,8 +41,8 @@ decide g h =
     (λ g ihg.
     ind (λ h. Either g h × Either h g)
     (λ h ihh. (
-      decide-step g h (λ x i. (ihg true x i h).1) (λ y i. (ihh false y i).1),
-      decide-step h g (λ x i. (ihh true x i).0) (λ y i. (ihg false y i h).0),
+      decide_step g h (λ x i. (ihg true x i h).1) (λ y i. (ihh false y i).1),
+      decide_step h g (λ x i. (ihh true x i).0) (λ y i. (ihg false y i h).0),
     ))) g h).0
 
 pub decided : Decided
@@ -53,9 +53,9 @@ abbrev Through : Game → Game → Game → Type 0
 Through g h k = Le g h → Le h k → Le g k
 
 -- one case of transitivity, where those that it calls for are known
-through-step :
+through_step :
     (g h k : Game) → ((x : Game) → In x (options true g) → Through h k x) → ((y : Game) → In y (options false k) → Through y g h) → Through g h k
-through-step g h k lefts rights p q = go (decide g k) p q
+through_step g h k lefts rights p q = go (decide g k) p q
   where
     go : Either g k → Le g h → Le h k → Le g k
     go (inl r) p q = r
@@ -71,9 +71,9 @@ le_trans {g} {h} {k} =
     (λ h ihh.
     ind (λ k. Round g h k)
     (λ k ihk. (
-      through-step g h k (λ x i. (ihg true x i h k).1) (λ y i. (ihk false y i).2),
-      through-step h k g (λ x i. (ihh true x i k).2) (λ y i. (ihg false y i h k).0),
-      through-step k g h (λ x i. (ihk true x i).0) (λ y i. (ihh false y i k).1),
+      through_step g h k (λ x i. (ihg true x i h k).1) (λ y i. (ihk false y i).2),
+      through_step h k g (λ x i. (ihh true x i k).2) (λ y i. (ihg false y i h k).0),
+      through_step k g h (λ x i. (ihk true x i).0) (λ y i. (ihh false y i k).1),
     )))) g h k).0
   where
     Round : Game → Game → Game → Type 0

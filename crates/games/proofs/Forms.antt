@@ -5,7 +5,7 @@ use Rattle.games.specs.Game.{Side, other, Game, Games, options, In, Reached, its
 use Rattle.games.specs.Order.{Equal, Worse, NotWorse}
 use Rattle.games.specs.Canonical.{Canonical, canonical, Identical, identical, Among, among, OneForm, IdenticalEqual, FormReached}
 use Rattle.games.proofs.Induction.{ind, deep}
-use Rattle.games.proofs.Sides.{worse_trans, worse_not_both, worse_own, worse_reply, not-worse-cases, equal_sym, equal_worse, worse_equal, equal-options}
+use Rattle.games.proofs.Sides.{worse_trans, worse_not_both, worse_own, worse_reply, not_worse_cases, equal_sym, equal_worse, worse_equal, equal_options}
 
 pub options_canonical : {g : Game} → Canonical g → (s : Side) (x : Game) → In x (options s g) → Canonical x
 options_canonical (canonical a b c) = a
@@ -19,7 +19,7 @@ irreversible (canonical a b c) = c
 -- an option of a canonical game is no better than some option of an equal game
 pub covered :
     (s : Side) (g h : Game) → Canonical g → Equal g h → (x : Game) → In x (options s g) → (y : Game) × In y (options s h) × Worse s x y
-covered s g h c e x i = go (not-worse-cases s h x (worse_own s g h (equal_worse s g h e) x i))
+covered s g h c e x i = go (not_worse_cases s h x (worse_own s g h (equal_worse s g h e) x i))
   where
     go :
         ((y : Game) × In y (options s h) × Worse s x y) ⊎ ((y : Game) × In y (options (other s) x) × Worse s y h) →
@@ -62,7 +62,7 @@ one_form g h c d e = (identical_both g h c d e).0
 
 mutual
   same_options : {g h : Game} → Identical g h → Equal g h
-  same_options {g} {h} (identical forth back) = equal-options g h (λ s x i. same_among (forth s x i)) (λ s y i. same_among (back s y i))
+  same_options {g} {h} (identical forth back) = equal_options g h (λ s x i. same_among (forth s x i)) (λ s y i. same_among (back s y i))
 
   same_among : {x : Game} {ys : Games} → Among x ys → (y : Game) × In y ys × Equal x y
   same_among (among y i p) = (y, i, same_options p)
@@ -79,7 +79,7 @@ reached_trans (onward s i q) r = onward s i (reached_trans q r)
 descends :
     (s : Side) (f h : Game) → Canonical f → In h (options s f) → (x : Game) → Worse s h x → NotWorse s f x → (y : Game) × Reached x y × Equal h y
 descends s f h c i =
-    deep (λ x. Worse s h x → NotWorse s f x → (y : Game) × Reached x y × Equal h y) (λ x ih p q. go x ih p (not-worse-cases s f x q))
+    deep (λ x. Worse s h x → NotWorse s f x → (y : Game) × Reached x y × Equal h y) (λ x ih p q. go x ih p (not_worse_cases s f x q))
   where
     Goal : Game → Type 0
     Goal x = (y : Game) × Reached x y × Equal h y
@@ -88,7 +88,7 @@ descends s f h c i =
         (x : Game) → ((s' t : Side) (y z : Game) → In y (options s' x) → In z (options t y) → Worse s h z → NotWorse s f z → Goal z) → Worse s h x →
         ((h' : Game) × In h' (options s f) × Worse s x h') ⊎ ((y : Game) × In y (options (other s) x) × Worse s y f) → Goal x
     go x ih p (inl h') = (x, itself, squeezed s f h x h'.0 c i h'.1 p h'.2)
-    go x ih p (inr y) = below (not-worse-cases s y.0 h (worse_reply s h x p y.0 y.1))
+    go x ih p (inr y) = below (not_worse_cases s y.0 h (worse_reply s h x p y.0 y.1))
       where
         below : ((z : Game) × In z (options s y.0) × Worse s h z) ⊎ ((w : Game) × In w (options (other s) h) × Worse s w y.0) → Goal x
         below (inl z) =

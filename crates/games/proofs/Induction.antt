@@ -23,11 +23,11 @@ deep P step g =
     (λ h ih. (step h (λ s t x y i j. (ih s x i).1 t y j), λ s x i. (ih s x i).0)) g).0
 
 -- where each game of a list is P or Q, all are P or one is Q
-pub all-or-one :
+pub all_or_one :
     {P Q : Game → Type 0} (gs : Games) → ((x : Game) → In x gs → P x ⊎ Q x) →
     ((x : Game) → In x gs → P x) ⊎ ((x : Game) × In x gs × Q x)
-all-or-one none each = inl (λ x i. elim i [ ])
-all-or-one {P} {Q} (more g gs) each = go (each g here) (all-or-one gs (λ x i. each x (there i)))
+all_or_one none each = inl (λ x i. elim i [ ])
+all_or_one {P} {Q} (more g gs) each = go (each g here) (all_or_one gs (λ x i. each x (there i)))
   where
     go :
         P g ⊎ Q g → ((x : Game) → In x gs → P x) ⊎ ((x : Game) × In x gs × Q x) →

@@ -3,9 +3,9 @@ use mathlib.Core.Logic.{◌⊎◌, inl, inr}
 use Rattle.games.specs.Game.{Side, other, Game, Games, none, more, options, In, here, there, both}
 use Rattle.games.specs.Order.{Worse, NotWorse}
 use Rattle.games.specs.Canonical.{Canonical}
-use Rattle.games.proofs.Induction.{deep, all-or-one, flipped}
-use Rattle.games.proofs.Sides.{worse_or_not, worse-by, worse_own, by_reply, not_worse_below}
-use Rattle.games.proofs.Lists.{in_first, in_last, of-both, in_more}
+use Rattle.games.proofs.Induction.{deep, all_or_one, flipped}
+use Rattle.games.proofs.Sides.{worse_or_not, worse_by, worse_own, by_reply, not_worse_below}
+use Rattle.games.proofs.Lists.{in_first, in_last, of_both, in_more}
 use Rattle.games.proofs.Forms.{options_canonical}
 
 -- w is fit to be an option of side s in a game equal to g: canonical, not as good as g, and not reversible
@@ -31,7 +31,7 @@ module _ (s : Side) (g : Game) where
       let rest = keep_all xs (λ y i. each y (there i)) in
       record {
         list = both one.list rest.list;
-        fit = of-both (Fit s g) one.list rest.list one.fit rest.fit;
+        fit = of_both (Fit s g) one.list rest.list one.fit rest.fit;
         serves =
             λ k others has.
             in_more (NotWorse s k) x xs (one.serves k others (λ w i. has w (in_first rest.list i)))
@@ -42,7 +42,7 @@ module _ (s : Side) (g : Game) where
   pub keep : (x : Game) → Canonical x → NotWorse s g x → Keeps x
   keep =
       deep (λ x. Canonical x → NotWorse s g x → Keeps x)
-      (λ x ih c p. go x ih c p (all-or-one (options (other s) x) (λ y i. flipped (worse_or_not s y g))))
+      (λ x ih c p. go x ih c p (all_or_one (options (other s) x) (λ y i. flipped (worse_or_not s y g))))
     where
       go :
           (x : Game) → ((s' t : Side) (y z : Game) → In y (options s' x) → In z (options t y) → Canonical z → NotWorse s g z → Keeps z) →
@@ -63,5 +63,5 @@ module _ (s : Side) (g : Game) where
             serves =
                 λ k others has.
                 by_reply s k x y.0 y.1
-                (worse-by s y.0 k (rest.serves k others has) (λ r i. not_worse_below s r y.0 g (others r i) y.2));
+                (worse_by s y.0 k (rest.serves k others has) (λ r i. not_worse_below s r y.0 g (others r i) y.2));
           }

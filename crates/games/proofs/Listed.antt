@@ -3,7 +3,7 @@ use mathlib.Core.Logic.{◌⊎◌, inl, inr}
 use Rattle.games.specs.Game.{Game, Games, none, more, In, here, there, both}
 use Rattle.games.specs.Order.{Equal}
 use Rattle.games.proofs.Sides.{equal_refl, equal_trans}
-use Rattle.games.proofs.Lists.{in_first, in_last, of-both, in_more}
+use Rattle.games.proofs.Lists.{in_first, in_last, of_both, in_more}
 
 -- a list of games that are P, in which each game that is P has an equal
 pub record Listed (P : Game → Type 0) : Type 0 where
@@ -31,7 +31,7 @@ pub either_listed : {P Q : Game → Type 0} → Listed P → Listed Q → Listed
 either_listed {P} {Q} l m =
     record {
       list = both l.list m.list;
-      sound = of-both (λ f. P f ⊎ Q f) l.list m.list (λ f i. inl (l.sound f i)) (λ f i. inr (m.sound f i));
+      sound = of_both (λ f. P f ⊎ Q f) l.list m.list (λ f i. inl (l.sound f i)) (λ f i. inr (m.sound f i));
       found =
           λ f. elim [
             | inl p ↦

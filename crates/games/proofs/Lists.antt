@@ -25,11 +25,11 @@ in_last none i = i
 in_last (more g gs) i = there (in_last gs i)
 
 -- what holds in two lists, holds in both together
-pub of-both :
+pub of_both :
     (P : Game → Type 0) (gs hs : Games) → ((x : Game) → In x gs → P x) → ((x : Game) → In x hs → P x) → (x : Game) → In x (both gs hs) → P x
-of-both P none hs p q x i = q x i
-of-both P (more g gs) hs p q x here = p g here
-of-both P (more g gs) hs p q x (there i) = of-both P gs hs (λ y j. p y (there j)) q x i
+of_both P none hs p q x i = q x i
+of_both P (more g gs) hs p q x here = p g here
+of_both P (more g gs) hs p q x (there i) = of_both P gs hs (λ y j. p y (there j)) q x i
 
 -- what holds of a game and of a list, holds of both together
 pub in_more : (P : Game → Type 0) (g : Game) (gs : Games) → P g → ((x : Game) → In x gs → P x) → (x : Game) → In x (more g gs) → P x
@@ -51,11 +51,11 @@ pub in_neg : (s : Side) (g x : Game) → In x (options s g) → In (neg x) (opti
 in_neg true (game l r) x i = in_negs i
 in_neg false (game l r) x i = in_negs i
 
-pub of-neg :
+pub of_neg :
     (P : Game → Type 0) (s : Side) (g : Game) → ((x : Game) → In x (options (other s) g) → P (neg x)) →
     (x : Game) → In x (options s (neg g)) → P x
-of-neg P true (game l r) p = of_negs P r p
-of-neg P false (game l r) p = of_negs P l p
+of_neg P true (game l r) p = of_negs P r p
+of_neg P false (game l r) p = of_negs P l p
 
 -- a list with a game for each game of another list
 pub record Collected (R : Game → Game → Type 0) (gs : Games) : Type 0 where

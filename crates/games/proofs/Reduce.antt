@@ -4,7 +4,7 @@ use Rattle.games.specs.Game.{Side, other, Game, Games, options, In}
 use Rattle.games.specs.Order.{Equal, Worse, NotWorse}
 use Rattle.games.specs.Canonical.{Canonical, canonical, HasForm}
 use Rattle.games.proofs.Induction.{ind}
-use Rattle.games.proofs.Sides.{turn_not, by_option, own, not_worse_below, equal_sym, equal_trans, equal_worse, equal_by, equal-options}
+use Rattle.games.proofs.Sides.{turn_not, by_option, own, not_worse_below, equal_sym, equal_trans, equal_worse, equal_by, equal_options}
 use Rattle.games.proofs.Lists.{of, in_of, of_of, Collected, collect}
 use Rattle.games.proofs.Keep.{Fit, Kept, keep, keep_all}
 use Rattle.games.proofs.Thin.{Thinned, thin}
@@ -57,7 +57,7 @@ form_step g ih = let f = reduced (of lists) canonicals in (f.0, f.1, equal_trans
 
     equal : Equal g (of lists)
     equal =
-        equal-options g (of lists) (λ s x i. let f = (forms s).to x i in (f.0, in_of lists s f.0 f.1, f.2.1))
+        equal_options g (of lists) (λ s x i. let f = (forms s).to x i in (f.0, in_of lists s f.0 f.1, f.2.1))
         (λ s f i. let x = (forms s).from f (of_of lists s f i) in (x.0, x.1, equal_sym x.2.1))
 
 pub has_form : HasForm

@@ -31,11 +31,11 @@ turn_not true g h p = p
 turn_not false g h p = p
 
 -- g is worse if none of its options is as good as h, and no reply in h as bad as g
-pub worse-by :
+pub worse_by :
     (s : Side) (g h : Game) → ((x : Game) → In x (options s g) → NotWorse s h x) →
     ((y : Game) → In y (options (other s) h) → NotWorse s y g) → Worse s g h
-worse-by true g h own replies = le own replies
-worse-by false g h own replies = le replies own
+worse_by true g h own replies = le own replies
+worse_by false g h own replies = le replies own
 
 -- and only then
 pub worse_own : (s : Side) (g h : Game) → Worse s g h → (x : Game) → In x (options s g) → NotWorse s h x
@@ -57,13 +57,13 @@ by_reply true g h y i p = down y i p
 by_reply false g h y i p = up y i p
 
 -- and only then
-pub not-worse-cases :
+pub not_worse_cases :
     (s : Side) (g h : Game) → NotWorse s g h →
     ((x : Game) × In x (options s g) × Worse s h x) ⊎ ((y : Game) × In y (options (other s) h) × Worse s y g)
-not-worse-cases true g h (up x i p) = inl (x, i, p)
-not-worse-cases true g h (down y i p) = inr (y, i, p)
-not-worse-cases false g h (up y i p) = inr (y, i, p)
-not-worse-cases false g h (down x i p) = inl (x, i, p)
+not_worse_cases true g h (up x i p) = inl (x, i, p)
+not_worse_cases true g h (down y i p) = inr (y, i, p)
+not_worse_cases false g h (up y i p) = inr (y, i, p)
+not_worse_cases false g h (down x i p) = inl (x, i, p)
 
 -- a game is no worse than its own options
 pub own : (s : Side) (g x : Game) → In x (options s g) → NotWorse s g x
@@ -108,9 +108,9 @@ pub equal_by :
 equal_by g h f k = (le (f true) (k false), le (k true) (f false))
 
 -- and so if each option of the one has an equal in the other
-pub equal-options :
+pub equal_options :
     (g h : Game) → ((s : Side) (x : Game) → In x (options s g) → (y : Game) × In y (options s h) × Equal x y) →
     ((s : Side) (y : Game) → In y (options s h) → (x : Game) × In x (options s g) × Equal y x) → Equal g h
-equal-options g h forth back =
+equal_options g h forth back =
     equal_by g h (λ s x i. let y = forth s x i in by_option s h x y.0 y.1 (equal_worse s x y.0 y.2))
     (λ s y i. let x = back s y i in by_option s g y x.0 x.1 (equal_worse s y x.0 x.2))

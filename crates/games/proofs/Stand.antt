@@ -7,9 +7,9 @@ use Rattle.games.specs.Play.{Moved, this, that, First, with, Second, any, Same}
 use Rattle.games.specs.Order.{Le, le, NotLe, up, down, Equal, Worse, NotWorse, TestRight}
 use Rattle.games.proofs.Induction.{ind}
 use Rattle.games.proofs.Compare.{decide}
-use Rattle.games.proofs.Sides.{worse_refl, worse_own, worse_reply, not-worse-cases}
-use Rattle.games.proofs.Lists.{in_neg, of-neg}
-use Rattle.games.proofs.Rows.{of-move, row-ind, not_first_second, first_if}
+use Rattle.games.proofs.Sides.{worse_refl, worse_own, worse_reply, not_worse_cases}
+use Rattle.games.proofs.Lists.{in_neg, of_neg}
+use Rattle.games.proofs.Rows.{of_move, row_ind, not_first_second, first_if}
 
 -- where g is at most h, the upright player does not fare worse with h, nor the flat player with g
 abbrev Agrees : Game → Game → List Game → Type 0
@@ -18,10 +18,10 @@ Agrees g h gs =
     × (Le g h → First false (h ∷ gs) → Second false (g ∷ gs) → ⊥)
     × (NotLe g h → Second true (g ∷ gs) → Second false (h ∷ gs) → ⊥)
 
-agrees-step :
+agrees_step :
     (g h : Game) (gs : List Game) → ((s : Side) (x : Game) → In x (options s g) → Agrees h x gs) →
     ((s : Side) (y : Game) → In y (options s h) → Agrees y g gs) → ((s : Side) (hs : List Game) → Moved s gs hs → Agrees g h hs) → Agrees g h gs
-agrees-step g h gs in_g in-h in-gs = (upright, flat, neither)
+agrees_step g h gs in_g in-h in-gs = (upright, flat, neither)
   where
     upright : Le g h → First true (g ∷ gs) → Second true (h ∷ gs) → ⊥
     upright (le f k) (with _ (this {h = x} i) q) r = (in_g true x i).2 (f x i) r q
@@ -41,10 +41,10 @@ agrees g h gs =
     (λ g ihg.
     ind (λ h. (gs : List Game) → Agrees g h gs × Agrees h g gs)
     (λ h ihh.
-    row-ind (λ gs. Agrees g h gs × Agrees h g gs)
+    row_ind (λ gs. Agrees g h gs × Agrees h g gs)
     (λ gs ih. (
-      agrees-step g h gs (λ s x i. (ihg s x i h gs).1) (λ s y i. (ihh s y i gs).1) (λ s hs m. (ih s hs m).0),
-      agrees-step h g gs (λ s x i. (ihh s x i gs).0) (λ s y i. (ihg s y i h gs).0) (λ s hs m. (ih s hs m).1),
+      agrees_step g h gs (λ s x i. (ihg s x i h gs).1) (λ s y i. (ihh s y i gs).1) (λ s hs m. (ih s hs m).0),
+      agrees_step h g gs (λ s x i. (ihh s x i gs).0) (λ s y i. (ihg s y i h gs).0) (λ s hs m. (ih s hs m).1),
     )))) g h gs).0
 
 pub better : (s : Side) (g h : Game) → Worse s g h → (gs : List Game) → First s (g ∷ gs) → First s (h ∷ gs)
@@ -64,15 +64,15 @@ with_other : (s : Side) {gs hs : List Game} → Moved (other s) gs hs → Second
 with_other true m q = with _ m q
 with_other false m q = with _ m q
 
-against-step :
+against_step :
     (g h : Game) → ((s : Side) (x : Game) → In x (options s g) → Against x h) → ((s : Side) (y : Game) → In y (options s h) → Against g y) → Against g h
-against-step g h in_g in-h s = (second, λ q. first (not-worse-cases s h g q))
+against_step g h in_g in-h s = (second, λ q. first (not_worse_cases s h g q))
   where
     second : Worse s g h → Second s (g ∷ neg h ∷ [])
     second p =
-        any (of-move (First (other s)) (λ x i. (in_g s x i s).1 (worse_own s g h p x i))
-        (of-move (λ hs. First (other s) (g ∷ hs))
-        (of-neg (λ z. First (other s) (g ∷ z ∷ [])) s h (λ y i. (in-h (other s) y i s).1 (worse_reply s g h p y i))) (λ hs m. elim m [ ])))
+        any (of_move (First (other s)) (λ x i. (in_g s x i s).1 (worse_own s g h p x i))
+        (of_move (λ hs. First (other s) (g ∷ hs))
+        (of_neg (λ z. First (other s) (g ∷ z ∷ [])) s h (λ y i. (in-h (other s) y i s).1 (worse_reply s g h p y i))) (λ hs m. elim m [ ])))
 
     first :
         ((x : Game) × In x (options s h) × Worse s g x) ⊎ ((y : Game) × In y (options (other s) g) × Worse s y h) → First (other s) (g ∷ neg h ∷ [])
@@ -82,7 +82,7 @@ against-step g h in_g in-h s = (second, λ q. first (not-worse-cases s h g q))
 pub against : (g h : Game) → Against g h
 against =
     ind (λ g. (h : Game) → Against g h)
-    (λ g ihg. ind (λ h. Against g h) (λ h ihh. against-step g h (λ s x i. ihg s x i h) ihh))
+    (λ g ihg. ind (λ h. Against g h) (λ h ihh. against_step g h (λ s x i. ihg s x i h) ihh))
 
 same_le : (g h : Game) → Same g h → Le g h
 unfolding Same

@@ -3,7 +3,7 @@ use mathlib.Core.Bool.{true, false}
 use Rattle.games.specs.Game.{Side, Game, Games, options, In, both, empty}
 use Rattle.games.specs.Sum.{Sum, sum, Made, in_one, in_two, Found, found, SumExists, SumTurns}
 use Rattle.games.proofs.Induction.{ind}
-use Rattle.games.proofs.Lists.{of, in_of, of_of, in_first, in_last, of-both, Collected, collect}
+use Rattle.games.proofs.Lists.{of, in_of, of_of, in_first, in_last, of_both, Collected, collect}
 
 -- the sum of two games, where the sums of their options are known
 sum_step :
@@ -22,7 +22,7 @@ sum_step g h in_g in-h = (of all, sum made one two)
 
     made : (s : Side) (x : Game) → In x (options s (of all)) → Made s g h x
     made s x i =
-        of-both (Made s g h) (ones s).list (twos s).list (λ k j. let m = (ones s).from k j in in_one m.0 m.1 m.2)
+        of_both (Made s g h) (ones s).list (twos s).list (λ k j. let m = (ones s).from k j in in_one m.0 m.1 m.2)
         (λ k j. let m = (twos s).from k j in in_two m.0 m.1 m.2) x (of_of all s x i)
 
     one : (s : Side) (y : Game) → In y (options s g) → Found y h (options s (of all))

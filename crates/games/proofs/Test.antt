@@ -40,21 +40,21 @@ shows_not : {A B : Type 0} {b : Bool} → Shows A B b → Shows B A (not b)
 shows_not (so p) = not_so p
 shows_not (not_so p) = so p
 
-shows-no-one :
+shows_no_one :
     {A B : Game → Type 0} (p : Game → Bool) (gs : Games) → ((x : Game) → In x gs → Shows (B x) (A x) (p x)) →
     Shows ((x : Game) → In x gs → A x) ((x : Game) × In x gs × B x) (no_one p gs)
-shows-no-one p none each = so (λ x i. elim i [ ])
-shows-no-one {A} {B} p (more g gs) each =
+shows_no_one p none each = so (λ x i. elim i [ ])
+shows_no_one {A} {B} p (more g gs) each =
     shows_both (in_more A g gs) (elim [ inl q ↦ (g, here, q) | inr q ↦ (q.0, there q.1, q.2) ]) (shows_not (each g here))
-    (shows-no-one p gs (λ x i. each x (there i)))
+    (shows_no_one p gs (λ x i. each x (there i)))
 
 shows_at_most : (n : ℕ) (g h : Game) → size g + size h ≤ n → Shows (Le g h) (NotLe g h) (at_most_by n g h)
 shows_at_most zero g h fits = absurd (omega (arith, some_size g))
 shows_at_most (suc n) g h fits =
     shows_both le (elim [ inl x ↦ up x.0 x.1 x.2 | inr y ↦ down y.0 y.1 y.2 ])
-    (shows-no-one {A = λ x. NotLe h x} {B = λ x. Le h x} (λ x. at_most_by n h x) (options true g)
+    (shows_no_one {A = λ x. NotLe h x} {B = λ x. Le h x} (λ x. at_most_by n h x) (options true g)
     (λ x i. shows_at_most n h x (omega (arith, smaller true g x i))))
-    (shows-no-one {A = λ y. NotLe y g} {B = λ y. Le y g} (λ y. at_most_by n y g) (options false h)
+    (shows_no_one {A = λ y. NotLe y g} {B = λ y. Le y g} (λ y. at_most_by n y g) (options false h)
     (λ y i. shows_at_most n y g (omega (arith, smaller false h y i))))
 
 pub computed : Computed

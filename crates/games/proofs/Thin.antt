@@ -3,7 +3,7 @@ use mathlib.Core.Path.{◌≡◌, refl}
 use mathlib.Core.Logic.{◌⊎◌, inl, inr}
 use Rattle.games.specs.Game.{Side, Game, Games, none, more, In, here, there}
 use Rattle.games.specs.Order.{Worse, NotWorse}
-use Rattle.games.proofs.Induction.{all-or-one, flipped}
+use Rattle.games.proofs.Induction.{all_or_one, flipped}
 use Rattle.games.proofs.Sides.{worse_refl, worse_trans, worse_or_not, worse_not_both}
 use Rattle.games.proofs.Lists.{in_more}
 
@@ -79,5 +79,5 @@ thin s (more w ws) = go (thin s ws)
 
     go : Thinned s ws → Thinned s (more w ws)
     go rest =
-        elim (all-or-one {P = λ v. NotWorse s w v} {Q = λ v. Worse s w v} rest.list (λ v i. flipped (worse_or_not s w v)))
+        elim (all_or_one {P = λ v. NotWorse s w v} {Q = λ v. Worse s w v} rest.list (λ v i. flipped (worse_or_not s w v)))
         [ inl alone ↦ kept rest alone | inr v ↦ struck rest v ]

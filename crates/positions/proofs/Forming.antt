@@ -10,7 +10,7 @@ use Rattle.forms.specs.declared.rows.Form.{Form}
 use Rattle.forms.specs.Rows.{row_for}
 use Rattle.forms.specs.Meaning.{meaning, given}
 use Rattle.forms.specs.Links.{Table}
-use Rattle.forms.proofs.Givens.{equal-given}
+use Rattle.forms.proofs.Givens.{equal_given}
 use Rattle.forms.proofs.Risings.{has_none}
 use Rattle.canonical.specs.Reducing.{Inserted}
 use Rattle.positions.specs.Growing.{Grows}
@@ -124,7 +124,7 @@ module _ (n : ℕ) (ms : Moves) (game : ℕ → Game) (full : ℕ) where
   pub set_game : (at : ℕ) (fs : List Form) (os : List ℕ) (u : ℕ) (ps us ls : List ℕ) → Family n ms game → Row n ms game at true n fs os u ps us → Row n ms game at false n fs os u ps ls →
       Equal (game at) (given (take u fs) os us ls)
   set_game at fs os u ps us ls family up down =
-      equal-given (take u fs) os us ls (game at)
+      equal_given (take u fs) os us ls (game at)
       (λ s x i.
       let f = family.from at s x i in
       let w = ((row s).all f.0 f.1.low f.1).1 in

@@ -5,7 +5,7 @@ use Rattle.std.proofs.lemmas.List.{get_or-map, length-map}
 use Rattle.std.proofs.ByRecursion.{all-has, All-get_or}
 use Rattle.games.specs.Game.{Game, options, In, empty}
 use Rattle.games.specs.Play.{Moved, this, that, First, with, Second, any}
-use Rattle.games.proofs.Rows.{of-move, not_first_second}
+use Rattle.games.proofs.Rows.{of_move, not_first_second}
 use Rattle.board.specs.Grid.{Grid, Side, other, Next, free_count}
 use Rattle.board.specs.Moves.{may, laid}
 use Rattle.board.specs.Rules.{Wins, by, Loses, whatever, OneOutcome}
@@ -27,25 +27,25 @@ moved_at s [] i x less h = absurd (omega arith)
 moved_at s (g ∷ gs) zero x less h = this h
 moved_at s (g ∷ gs) (suc i) x less h = that (moved_at s gs i x (omega arith) h)
 
-of-moved :
+of_moved :
     (s : Side) (gs : List Game) (P : List Game → Type 0) → ((i : ℕ) (x : Game) → i < length gs → In x (options s (get_or gs i empty)) → P (set gs i x)) →
     (hs : List Game) → Moved s gs hs → P hs
-of-moved s [] P each hs m = elim m [ ]
-of-moved s (g ∷ gs) P each hs m =
-    of-move P (λ x h. each 0 x (omega arith) h) (of-moved s gs (λ rest. P (g ∷ rest)) (λ i x less h. each (suc i) x (omega arith) h)) hs m
+of_moved s [] P each hs m = elim m [ ]
+of_moved s (g ∷ gs) P each hs m =
+    of_move P (λ x h. each 0 x (omega arith) h) (of_moved s gs (λ rest. P (g ∷ rest)) (λ i x less h. each (suc i) x (omega arith) h)) hs m
 
 -- a row made of a list, where one thing is made anew and the others come to the same
-set-map :
+set_map :
     {X : Type 0} (f g : X → Game) (xs : List X) (i : ℕ) (d : X) → i < length xs →
     ((j : ℕ) → j < length xs → (j ≡ i → ⊥) → f (get_or xs j d) ≡ g (get_or xs j d)) → set (map f xs) i (g (get_or xs i d)) ≡ map g xs
-set-map f g [] i d less each = absurd (omega arith)
-set-map {X} f g (x ∷ xs) zero d less each = ap (λ l. g x ∷ l) (same xs (λ j h. each (suc j) (omega arith) (λ e. omega arith)))
+set_map f g [] i d less each = absurd (omega arith)
+set_map {X} f g (x ∷ xs) zero d less each = ap (λ l. g x ∷ l) (same xs (λ j h. each (suc j) (omega arith) (λ e. omega arith)))
   where
     same : (ys : List X) → ((j : ℕ) → j < length ys → f (get_or ys j d) ≡ g (get_or ys j d)) → map f ys ≡ map g ys
     same [] all = refl
     same (y ∷ ys) all = λ k. all 0 (omega arith) k ∷ same ys (λ j h. all (suc j) (omega arith)) k
-set-map f g (x ∷ xs) (suc i) d less each =
-    let rest = set-map f g xs i d (omega arith) (λ j h ne. each (suc j) (omega arith) (λ e. ne (omega arith))) in
+set_map f g (x ∷ xs) (suc i) d less each =
+    let rest = set_map f g xs i d (omega arith) (λ j h ne. each (suc j) (omega arith) (λ e. ne (omega arith))) in
     λ k. each 0 (omega arith) (λ e. omega arith) k ∷ rest k
 
 -- lists of squares that split a board: each lawful move lies in one of them, and no square in two
@@ -69,7 +69,7 @@ module _ (n : ℕ) (b : Grid) (rs : List (List ℕ)) (x : Split b rs) (enough : 
   unfolding laid
   row_after i p less inside =
       ap (λ c. set (row n b rs) i (tree n c)) (laid_through b (get_or rs i []) s p)
-      ∙ set-map (λ r. tree n (through b r)) (λ r. tree n (through (laid b s p) r)) rs i [] less
+      ∙ set_map (λ r. tree n (through b r)) (λ r. tree n (through (laid b s p) r)) rs i [] less
       (λ j below apart.
       ap (tree n)
       (through_elsewhere b (covered b s p) (get_or rs j [])
@@ -90,7 +90,7 @@ module _ (n : ℕ) (b : Grid) (rs : List (List ℕ)) (x : Split b rs) (enough : 
 
   of_row : (P : List Game → Type 0) → ((p : ℕ) → may b s p ≡ true → P (row n (laid b s p) rs)) → (hs : List Game) → Moved s (row n b rs) hs → P hs
   of_row P each =
-      of-moved s (row n b rs) P
+      of_moved s (row n b rs) P
       (λ i g less h.
       let below : i < length rs = omega (arith, length-map rs (λ q. tree n (through b q))) in
       let r = get_or rs i [] in

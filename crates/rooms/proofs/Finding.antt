@@ -13,7 +13,7 @@ use Rattle.rooms.specs.Growth.{marked, Grown, Ended}
 use Rattle.rooms.specs.Values.{squares_of, SmallRooms, FirstLarger}
 use Rattle.rooms.specs.declared.room.Room.{Room as OneRoom}
 use Rattle.rooms.proofs.Lists.{rise_push}
-use Rattle.rooms.proofs.Reach.{walk_trans, walk_back, walk_keeps, many-room, first_least}
+use Rattle.rooms.proofs.Reach.{walk_trans, walk_back, walk_keeps, many_room, first_least}
 use Rattle.rooms.proofs.Beside.{rooms_law}
 
 -- the squares below p were looked at: the marked squares are closed under free neighbours, and rs are the rooms among them
@@ -84,7 +84,7 @@ module _ (b : Grid) (p : ℕ) (old : List Bool) (rs : List (List ℕ)) (x : Sofa
     found_larger many = record {
       large = record { start = start; least = least; many = many };
       none_before = λ q less large.
-          let r = many-room 16 b rs (omega arith) x.each q (λ t near f. x.covered q t (x.below q less large.start) near f) large.many in
+          let r = many_room 16 b rs (omega arith) x.each q (λ t near f. x.covered q t (x.below q less large.start) near f) large.many in
           let few = all-has (λ t. length t ≤ 16) rs r.0 x.small r.1 in
           omega (arith, r.3);
     }
@@ -182,10 +182,10 @@ unfolding squares_of
 squares_few r = let k = length-take r.len r.squares in let l = r.few in omega arith
 
 -- there is a place for one room more, since each has two marks
-pub room-left :
+pub room_left :
     (b : Grid) (p : ℕ) (seen : List Bool) (rooms : List OneRoom) (len : ℕ) (qs : List ℕ) → Sofar b p seen (map squares_of (take len rooms) ++ qs ∷ []) →
     length seen ≡ 256 → len ≤ length rooms → len < 128
-room-left b p seen rooms len qs x long fits_in =
+room_left b p seen rooms len qs x long fits_in =
     let rs = map squares_of (take len rooms) in
     let k = length_push rs qs in
     let l = length-map (take len rooms) squares_of ∙ length-take-le len rooms fits_in in
@@ -194,10 +194,10 @@ room-left b p seen rooms len qs x long fits_in =
     omega arith
 
 -- it is written behind the others
-pub room-written :
+pub room_written :
     (rooms : List OneRoom) (len : ℕ) (r : OneRoom) → len < length rooms →
     map squares_of (take len rooms) ++ squares_of r ∷ [] ≡ map squares_of (take (len + 1) (set rooms len r))
-room-written rooms len r less = sym (ap (map squares_of) (take_more_set rooms len r less) ∙ map_push squares_of (take len rooms) r)
+room_written rooms len r less = sym (ap (map squares_of) (take_more_set rooms len r less) ∙ map_push squares_of (take len rooms) r)
 
 -- a slice of all rooms: how many they are, and one of them
 pub slice_long : (slice : List OneRoom) (rs : List (List ℕ)) → map squares_of slice ≡ rs → length slice ≡ length rs

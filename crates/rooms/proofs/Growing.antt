@@ -61,9 +61,9 @@ grow b p old seen qs q x walk open-q new less = record {
 }
 
 -- a walk begins
-pub grown-start :
+pub grown_start :
     (b : Grid) (p : ℕ) (old : List Bool) → free b p ≡ true → marked old p ≡ false → p < length old → Grown b p old (set old p true) (p ∷ [])
-grown-start b p old open-p new less = record {
+grown_start b p old open-p new less = record {
   start = (0, omega arith, λ d. refl);
   apart = apart_push [] p (λ q. omega arith) (λ h. omega (arith, h.1));
   open_squares = (open-p, tt);
@@ -126,11 +126,11 @@ module _ (b : Grid) (wide : 0 < b.width) (from : ℕ) where
         walk_trans (all-has (Walk b p) qs' from now-grown.reached (found_still qs qs' x.longer x.same from h))
         (go q (toward_next (get_or all_ways i d) q near.0) near.1 stay)
 
-    visited-new-list :
+    visited_new_list :
         (q : ℕ) → Neighbour b from (get_or all_ways i d) (Some q) → marked seen' q ≡ false → q < length seen' →
         Visited b from (take (i + 1) all_ways) seen (set seen' q true) qs (qs' ++ q ∷ [])
     unfolding Neighbour
-    visited-new-list q near new below = record {
+    visited_new_list q near new below = record {
       longer = let k = length_push qs' q in let l = x.longer in omega arith;
       same = λ k h. get_or_append_left qs' (q ∷ []) 0 k (let l = x.longer in omega arith) ∙ x.same k h;
       kept = λ r e. mark_keeps seen' q r below (x.kept r e);
@@ -146,10 +146,10 @@ module _ (b : Grid) (wide : 0 < b.width) (from : ℕ) where
     }
 
     -- no place is left for it
-    pub visited-full :
+    pub visited_full :
         (q : ℕ) → Neighbour b from (get_or all_ways i d) (Some q) → marked seen' q ≡ false → 16 ≤ length qs' →
         (p : ℕ) (old : List Bool) → Grown b p old seen qs → Has qs from → Many 16 b p
-    visited-full q near new full p old g h =
+    visited_full q near new full p old g h =
         let now-grown = x.grown p old g h in
         record {
           squares = qs' ++ q ∷ [];
@@ -159,10 +159,10 @@ module _ (b : Grid) (wide : 0 < b.width) (from : ℕ) where
           reached = All-push (Walk b p) qs' q now-grown.reached (reached_new q near p old g h);
         }
 
-  pub visited-new :
+  pub visited_new :
       (i : ℕ) (d : Way) → i < 4 → (seen seen' : List Bool) (qs squares : List ℕ) (n : ℕ) → Visited b from (take i all_ways) seen seen' qs (take n squares) →
       (q : ℕ) → Neighbour b from (get_or all_ways i d) (Some q) → marked seen' q ≡ false → q < length seen' → n < length squares →
       Visited b from (take (i + 1) all_ways) seen (set seen' q true) qs (take (n + 1) (set squares n q))
-  visited-new i d less seen seen' qs squares n x q near new below place =
+  visited_new i d less seen seen' qs squares n x q near new below place =
       subst (Visited b from (take (i + 1) all_ways) seen (set seen' q true) qs) (sym (take_more_set squares n q place))
-      (visited-new-list i d less seen seen' qs (take n squares) x q near new below)
+      (visited_new_list i d less seen seen' qs (take n squares) x q near new below)

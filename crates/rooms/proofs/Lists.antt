@@ -48,13 +48,13 @@ rise_push f [] y up below = (tt, tt)
 rise_push f (x ∷ xs) y up below = (All-push (λ z. f x < f z) xs y up.0 below.0, rise_push f xs y up.1 below.1)
 
 -- two rising lists that have the same things are the same
-pub rise-same :
+pub rise_same :
     {X : Type 0} (f : X → ℕ) (xs ys : List X) → Rise f xs → Rise f ys → ((x : X) → Has xs x → Has ys x) → ((y : X) → Has ys y → Has xs y) → xs ≡ ys
-rise-same f [] [] rx ry to from = refl
-rise-same f [] (y ∷ ys) rx ry to from = absurd (has_none y (from y (has_here y ys)))
-rise-same f (x ∷ xs) [] rx ry to from = absurd (has_none x (to x (has_here x xs)))
-rise-same {X} f (x ∷ xs) (y ∷ ys) rx ry to from =
-    let rest = rise-same f xs ys rx.1 ry.1
+rise_same f [] [] rx ry to from = refl
+rise_same f [] (y ∷ ys) rx ry to from = absurd (has_none y (from y (has_here y ys)))
+rise_same f (x ∷ xs) [] rx ry to from = absurd (has_none x (to x (has_here x xs)))
+rise_same {X} f (x ∷ xs) (y ∷ ys) rx ry to from =
+    let rest = rise_same f xs ys rx.1 ry.1
     (λ z h. ⊎_elim (λ e. absurd (let k = all-has (λ w. f x < f w) xs z rx.0 h in let l = ap f (same ∙ e) in omega arith)) (λ g. g) (has_cases y ys z (to z (has_there x xs z h))))
     (λ z h. ⊎_elim (λ e. absurd (let k = all-has (λ w. f y < f w) ys z ry.0 h in let l = ap f (sym same ∙ e) in omega arith)) (λ g. g) (has_cases x xs z (from z (has_there y ys z h)))) in
     λ i. same i ∷ rest i

@@ -7,7 +7,7 @@ use Rattle.board.specs.Grid.{Grid, free, Next}
 use Rattle.board.proofs.Edges.{next_sym}
 use Rattle.rooms.specs.Walks.{Walk, stay, go, Rise, Apart, first}
 use Rattle.rooms.specs.Rooms.{Room, Rooms, OneList, Many, Larger, LargerLaw}
-use Rattle.rooms.proofs.Lists.{has_here, has_there, all_by_has, rise_at, rise-same, rise_apart, apart_first, no_longer}
+use Rattle.rooms.proofs.Lists.{has_here, has_there, all_by_has, rise_at, rise_same, rise_apart, apart_first, no_longer}
 
 pub walk_trans : {b : Grid} {p q r : ℕ} → Walk b p q → Walk b q r → Walk b p r
 walk_trans stay w = w
@@ -25,7 +25,7 @@ walk_keeps P step (go {p = p} q n f w) h = walk_keeps P step w (step p q h n f)
 -- rooms that share a square are the same
 pub same_room : (b : Grid) (r s : List ℕ) (p : ℕ) → Room b r → Room b s → Has r p → Has s p → r ≡ s
 same_room b r s p x y hr hs =
-    rise-same (λ q. q) r s x.rising y.rising
+    rise_same (λ q. q) r s x.rising y.rising
     (λ q h. walk_keeps (Has s) y.closed (x.linked p q hr h) hs) (λ q h. walk_keeps (Has r) x.closed (y.linked p q hs h) hr)
 
 -- a room has a square with a free neighbour
@@ -48,7 +48,7 @@ room_listed b rs all r x =
 pub one_list : OneList
 unfolding OneList
 one_list b rs qs x y =
-    rise-same first rs qs x.rising y.rising (λ r h. room_listed b qs y r (all-has (Room b) rs r x.each h))
+    rise_same first rs qs x.rising y.rising (λ r h. room_listed b qs y r (all-has (Room b) rs r x.each h))
     (λ r h. room_listed b rs x r (all-has (Room b) qs r y.each h))
 
 -- a walk to another square begins with a free neighbour
@@ -57,10 +57,10 @@ alone_or_near stay = inl refl
 alone_or_near (go r n f w) = inr (r, n, f)
 
 -- more than n squares are reached from p, and where p has a free neighbour it lies in a room of rs: that room has more than n squares
-pub many-room :
+pub many_room :
     (n : ℕ) (b : Grid) (rs : List (List ℕ)) → 1 ≤ n → All (Room b) rs → (p : ℕ) →
     ((q : ℕ) → Next b p q → free b q ≡ true → (r : List ℕ) × Has rs r × Has r p) → Many n b p → (r : List ℕ) × Has rs r × Has r p × (n < length r)
-many-room n b rs some each p near x = step x.squares x.apart x.reached x.more
+many_room n b rs some each p near x = step x.squares x.apart x.reached x.more
   where
     inner : (q : ℕ) → Next b p q → free b q ≡ true → (qs : List ℕ) → Apart qs → All (Walk b p) qs → n < length qs → (r : List ℕ) × Has rs r × Has r p × (n < length r)
     inner q nq fq qs apart reached more =
@@ -93,7 +93,7 @@ larger_law n b rs some x p = (to, λ r. subst (Larger n b) r.3 (from r.0 r.1 r.2
   where
     to : Larger n b p → (r : List ℕ) × Has rs r × (n < length r) × (first r ≡ p)
     to large =
-        let r = many-room n b rs some x.each p (λ q near f. x.whole p q large.start f near) large.many in
+        let r = many_room n b rs some x.each p (λ q near f. x.whole p q large.start f near) large.many in
         let room = all-has (Room b) rs r.0 x.each r.1 in
         let low = first_least r.0 room.rising p r.2 in
         let high = large.least (first r.0) (room.linked p (first r.0) r.2 (has_get_or r.0 0 0 (omega (arith, room.two)))) in

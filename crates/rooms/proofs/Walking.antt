@@ -38,12 +38,12 @@ way_listed Down = (3, omega arith, λ d. refl)
 
 module _ (b : Grid) (wide : 0 < b.width) (p : ℕ) where
   -- one square more is visited
-  pub walking-more :
+  pub walking_more :
       (start seen seen' : List Bool) (squares squares' : List ℕ) (len at n : ℕ) → Walking b p start seen squares len at → at < len →
       Visited b (get_or squares at 0) all_ways seen seen' (take len squares) (take n squares') → n ≤ 16 → length seen' ≡ 256 → length squares' ≡ 16 →
       Walking b p start seen' squares' n (at + 1)
   unfolding WaysLaw
-  walking-more start seen seen' squares squares' len at n x less v few marks_long long =
+  walking_more start seen seen' squares squares' len at n x less v few marks_long long =
       let old-long = length-take-le len squares (let k = x.long in let l = x.few in omega arith) in
       let new-long = length-take-le n squares' (omega arith) in
       let longer = v.longer in
@@ -67,10 +67,10 @@ module _ (b : Grid) (wide : 0 < b.width) (p : ℕ) where
       }
 
   -- every square was visited, and the squares are sorted
-  pub walk-ended :
+  pub walk_ended :
       (old seen : List Bool) (squares : List ℕ) (len at : ℕ) (sorted : List ℕ) → Walking b p (set old p true) seen squares len at → len ≤ at →
       Grown b p old (set old p true) (p ∷ []) → IsPermutation (take len squares) sorted → IsNonDecreasing sorted → Ended b p old seen sorted
-  walk-ended old seen squares len at sorted x done first shuffled up =
+  walk_ended old seen squares len at sorted x done first shuffled up =
       let g = x.grown old first in
       let qs = take len squares in
       let long = length-take-le len squares (let k = x.long in let l = x.few in omega arith) in

@@ -14,7 +14,7 @@ use Rattle.forms.specs.Meaning.{meaning, given}
 use Rattle.forms.specs.Soundness.{Known}
 use Rattle.forms.specs.Links.{Table}
 use Rattle.forms.proofs.Chains.{use_length}
-use Rattle.forms.proofs.Givens.{equal-given}
+use Rattle.forms.proofs.Givens.{equal_given}
 use Rattle.forms.proofs.Risings.{has_none}
 use Rattle.rooms.proofs.Lists.{all_by_has}
 use Rattle.canonical.specs.Answers.{Answered, Refused}
@@ -117,7 +117,7 @@ module _ (g h : Game) (fs : List Form) (os : List ℕ) (n : ℕ) (us ls : List �
 
   -- they are those of the sum
   rows_sum : (k : Game) → Sum g h k → Equal k (given (take n fs) os us ls)
-  rows_sum k (sum made one two) = equal-given (take n fs) os us ls k (λ s x i. forth s x (made s x i)) (λ s w has. back s w ((side_row s).right w has))
+  rows_sum k (sum made one two) = equal_given (take n fs) os us ls k (λ s x i. forth s x (made s x i)) (λ s w has. back s w ((side_row s).right w has))
     where
       forth : (s : Side) (x : Game) → Made s g h x → (w : ℕ) × Has (row_for s us ls) w × Equal x (meaning (take n fs) os w)
       forth s x (in_one y i p) = let a = (side_row s).one y i in (a.0, a.1, adds_one (x, p, equal_refl x) a.2)

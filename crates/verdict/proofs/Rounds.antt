@@ -21,10 +21,10 @@ module _ (s : Side) (b : Grid) where
       record { table = table; long = refl; pairs = pairs; within = λ p less. absurd (omega arith); first = λ p less. absurd (omega arith) }
 
   -- all places are those of the board
-  pub tried-all :
+  pub tried_all :
       (k n : ℕ) → n ≤ k → (fs gs : List Form) (ps qs : List ℕ) (x : Option ℕ) (u : ℕ) → Tried s b k fs gs ps qs x u → Tried s b n fs gs ps qs x u
   unfolding FirstGood
-  tried-all k n less fs gs ps qs x u t =
+  tried_all k n less fs gs ps qs x u t =
       record { table = t.table; long = t.long; pairs = t.pairs; within = λ p h. t.within p (omega arith); first = fewer x t.first }
     where
       fewer : (x : Option ℕ) → FirstGood s b k x → FirstGood s b n x
@@ -67,10 +67,10 @@ module _ (s : Side) (b : Grid) where
 
       module _ (c : Grid) (is : c ≡ laid b s k) (hs : List Form) (os rs : List ℕ) where
         -- the board after the plank has a worth
-        pub tried-more :
+        pub tried_more :
             (rooms : List (List ℕ)) (sum : ℕ) (owns : List ℕ) (v : ℕ) → Worth c rooms gs hs os rs sum owns v → (y : Option ℕ) → FirstGood s b (k + 1) y →
             Tried s b (k + 1) fs hs os rs y v
-        tried-more rooms sum owns v w y f =
+        tried_more rooms sum owns v w y f =
             record {
               table = w.table;
               long = let l = w.long in let m = t.long in omega arith;

@@ -8,7 +8,7 @@ use Rattle.board.specs.declared.refusal.Refusal.{Refusal}
 use Rattle.rooms.specs.Rooms.{Many, Larger}
 use Rattle.rooms.specs.Values.{SmallRooms, Found}
 use Rattle.rooms.specs.Walks.{Walk, stay, go}
-use Rattle.rooms.proofs.Reach.{many-room}
+use Rattle.rooms.proofs.Reach.{many_room}
 use Rattle.rooms.proofs.Through.{covered, at_taken}
 use Rattle.verdict.specs.Trying.{NotLarge}
 
@@ -36,7 +36,7 @@ module _ (b : Grid) (s : Side) (p : ℕ) where
       let x = large.many in
       let many : Many 16 b q = record { squares = x.squares; more = x.more; apart = x.apart; reached = All-weaker (Walk (laid b s p) q) (Walk b q) (λ t w. walk_before w) x.squares x.reached } in
       let start = free_before q large.start in
-      let r = many-room 16 b rs (omega arith) rooms.rooms.each q (λ t near f. rooms.rooms.whole q t start f near) many in
+      let r = many_room 16 b rs (omega arith) rooms.rooms.each q (λ t near f. rooms.rooms.whole q t start f near) many in
       let few = all-has (λ t. length t ≤ 16) rs r.0 rooms.small r.1 in
       let more = r.3 in
       omega arith

@@ -33,11 +33,11 @@ module _ (s : Side) (b : Grid) where
   whole_refused rs fs gs ps qs NoMemory o = tt
 
   -- a board after a plank of side t is
-  pub plank-refused :
+  pub plank_refused :
       (t : Side) (n : ℕ) (gs hs : List Form) (ps qs : List ℕ) → length gs ≡ n → (e : Failure) → TriedAnswer t b gs hs ps qs (Err e) → Chosen s b n (Err e)
   unfolding IsTooMany
-  plank-refused t n gs hs ps qs same Count o = inr (t, o.0, o.1, subst (λ m. Over m (laid b t o.0)) same o.2)
-  plank-refused t n gs hs ps qs same NoMemory o = tt
+  plank_refused t n gs hs ps qs same Count o = inr (t, o.0, o.1, subst (λ m. Over m (laid b t o.0)) same o.2)
+  plank_refused t n gs hs ps qs same NoMemory o = tt
 
   -- neither
   none_over :
@@ -45,10 +45,10 @@ module _ (s : Side) (b : Grid) where
   unfolding IsTooMany
   none_over n whole planks o = ⊎_elim whole (λ x. planks x.0 x.1 x.2 x.3) o
 
-  no-plank :
+  no_plank :
       (t : Side) (n : ℕ) (fs gs : List Form) (ps qs : List ℕ) (x : Option ℕ) (u : ℕ) → length fs ≡ n → Tried t b (length b.cells) fs gs ps qs x u →
       (p : ℕ) → may b t p ≡ true → Over n (laid b t p) → ⊥
-  no-plank t n fs gs ps qs x u same tried p m o = tried.within p (may_below b t p m) m (subst (λ k. Over k (laid b t p)) (sym same) o)
+  no_plank t n fs gs ps qs x u same tried p m o = tried.within p (may_below b t p m) m (subst (λ k. Over k (laid b t p)) (sym same) o)
 
   pub chosen :
       (n : ℕ) → (Over n b → ⊥) → (o : Side) → o ≡ other s →
@@ -58,6 +58,6 @@ module _ (s : Side) (b : Grid) where
     says_first y own.first,
     none_over n whole
         (both_sides (λ t. (p : ℕ) → may b t p ≡ true → Over n (laid b t p) → ⊥) s
-        (no-plank s n gs hs os rs y v (theirs.long ∙ same) own)
-        (subst (λ t. (p : ℕ) → may b t p ≡ true → Over n (laid b t p) → ⊥) is (no-plank o n fs gs ps qs x u same theirs))),
+        (no_plank s n gs hs os rs y v (theirs.long ∙ same) own)
+        (subst (λ t. (p : ℕ) → may b t p ≡ true → Over n (laid b t p) → ⊥) is (no_plank o n fs gs ps qs x u same theirs))),
   )

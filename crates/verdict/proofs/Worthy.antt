@@ -27,10 +27,10 @@ module _ (b : Grid) (rs : List (List ℕ)) (rooms : Rooms b rs) where
   over_count n above = let c = one_count (games_of b rs) in (rs, rooms, inl (c.0, c.1, above c.0 c.1))
 
   -- neither
-  pub not-over :
+  pub not_over :
       (n : ℕ) → ((m : ℕ) → Count (games_of b rs) m → n < m → ⊥) → ((f : Game) → Member (games_of b rs) f → Wide 16 f → ⊥) → Over n b → ⊥
   unfolding Over OneList
-  not-over n most narrow o =
+  not_over n most narrow o =
       let same = one_list b o.0 rs o.1 rooms in
       ⊎_elim
       (λ x. most x.0 (subst (λ l. Count (games_of b l) x.0) same x.1) x.2)
@@ -39,10 +39,10 @@ module _ (b : Grid) (rs : List (List ℕ)) (rooms : Rooms b rs) where
 
   module _ (fs : List Form) (os : List ℕ) (n : ℕ) (gs : List Form) (ps : List ℕ) where
     -- the row of rooms was formed, in a table of as many places
-    pub worth-formed :
+    pub worth_formed :
         (es : List Form) → length fs ≡ length es → (qs : List ℕ) (sum : ℕ) (owns : List ℕ) (u : ℕ) → RowIsFormed b rs fs os n gs ps sum owns u × HoldsRight gs ps u qs →
         Worth b rs es gs ps qs sum owns u
-    worth-formed es same qs sum owns u x =
+    worth_formed es same qs sum owns u x =
         let row = x.0.row in
         let grows = row.grows in
         record {
@@ -51,8 +51,8 @@ module _ (b : Grid) (rs : List (List ℕ)) (rooms : Rooms b rs) where
           pairs = x.1;
           known = row.known;
           tells = x.0.tells;
-          own = row.own_val;
-          within = not-over (length es) (λ m c h. let k = x.0.most m c in let w = grows.table.within in let l = grows.long in omega arith) x.0.narrow;
+          own = row.own;
+          within = not_over (length es) (λ m c h. let k = x.0.most m c in let w = grows.table.within in let l = grows.long in omega arith) x.0.narrow;
         }
 
     -- it was not, since a form is too wide
@@ -60,9 +60,9 @@ module _ (b : Grid) (rs : List (List ℕ)) (rooms : Rooms b rs) where
     worth_wide m qs e is x = over_wide m (subst (λ r. RoomsAnswer b rs fs os n gs ps qs (Err r)) is x)
 
     -- it was not, though the table was new
-    pub worth-refused :
+    pub worth_refused :
         (es : List Form) → length fs ≡ length es → n ≡ 1 → (qs : List ℕ) (e : Refusal) → RoomsAnswer b rs fs os n gs ps qs (Err e) →
         WorthAnswer b rs es gs ps qs (Err (failure_of e))
-    worth-refused es same one qs Full x = over_count (length es) (λ m c. let h = x.above one m c in omega arith)
-    worth-refused es same one qs TooWide x = over_wide (length es) x
-    worth-refused es same one qs NoMemory x = tt
+    worth_refused es same one qs Full x = over_count (length es) (λ m c. let h = x.above one m c in omega arith)
+    worth_refused es same one qs TooWide x = over_wide (length es) x
+    worth_refused es same one qs NoMemory x = tt

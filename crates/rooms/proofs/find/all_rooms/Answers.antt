@@ -5,7 +5,7 @@ use Rattle.board.specs.Grid.{free}
 use Rattle.board.specs.Values.{grid_of}
 use Rattle.board.proofs.Edges.{board_wide}
 use Rattle.rooms.specs.Values.{squares_of, rooms_of, Walked, Found}
-use Rattle.rooms.proofs.Finding.{Sofar, sofar_start, sofar_skip, sofar_single, sofar_room, sofar_done, found_larger, squares_few, room-left, room-written}
+use Rattle.rooms.proofs.Finding.{Sofar, sofar_start, sofar_skip, sofar_single, sofar_room, sofar_done, found_larger, squares_few, room_left, room_written}
 use Rattle.rooms.proofs.find.all_rooms.Goals as goal
 
 pub loop-p-init : goal.loop-p-init
@@ -56,7 +56,7 @@ added c =
 pub bounds-rooms-len : goal.bounds-rooms-len
 bounds-rooms-len c =
     let inv = c.loop-p.invariant in
-    room-left (grid_of c.args.board.now) (c.loop-p.p + 1) c.walk.new.seen c.loop-p.rooms c.loop-p.len _ (added c) c.walk.array_long (omega (arith, inv.1, inv.2))
+    room_left (grid_of c.args.board.now) (c.loop-p.p + 1) c.walk.new.seen c.loop-p.rooms c.loop-p.len _ (added c) c.walk.array_long (omega (arith, inv.1, inv.2))
 
 pub loop-p-preserved : goal.loop-p-preserved
 loop-p-preserved c =
@@ -66,7 +66,7 @@ loop-p-preserved c =
       length-set c.loop-p.rooms c.loop-p.len c.in-Some.room ∙ inv.1,
       omega arith,
       subst (Sofar (grid_of c.args.board.now) (c.loop-p.p + 1) c.walk.new.seen)
-          (room-written c.loop-p.rooms c.loop-p.len c.in-Some.room (omega (arith, inv.1))) (added c),
+          (room_written c.loop-p.rooms c.loop-p.len c.in-Some.room (omega (arith, inv.1))) (added c),
     )
 
 pub returns : goal.returns

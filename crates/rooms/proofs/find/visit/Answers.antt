@@ -4,7 +4,7 @@ use Rattle.board.specs.Values.{grid_of}
 use Rattle.board.specs.declared.ways.Way.TheVariants.{Up}
 use Rattle.board.proofs.Edges.{board_wide}
 use Rattle.rooms.specs.Growth.{Visit, Visited, all_ways}
-use Rattle.rooms.proofs.Growing.{visited_start, visited_none, visited_seen, visited-new, visited-full, neighbour_below}
+use Rattle.rooms.proofs.Growing.{visited_start, visited_none, visited_seen, visited_new, visited_full, neighbour_below}
 use Rattle.rooms.proofs.find.visit.Goals as goal
 
 pub bounds-seen-q : goal.bounds-seen-q
@@ -37,7 +37,7 @@ unfolding Visit
 returns-then-n-eq-LARGEST c =
     let inv = c.loop-way.invariant in
     let long = length-take-le c.loop-way.n c.loop-way.squares (omega arith) in
-    visited-full (grid_of c.args.board.now) (board_wide c.args.board.now) c.args.from c.loop-way.way-index Up c.loop-way-test.true _ _ _ _ inv.3 c.in-Some.q
+    visited_full (grid_of c.args.board.now) (board_wide c.args.board.now) c.args.from c.loop-way.way-index Up c.loop-way-test.true _ _ _ _ inv.3 c.in-Some.q
     c.in-Some.ensures c.if-seen-q.false (omega arith)
 
 pub bounds-seen-q-in-loop-way : goal.bounds-seen-q-in-loop-way
@@ -50,7 +50,7 @@ loop-way-preserved c =
       length-set c.loop-way.seen _ _ ∙ inv.0,
       length-set c.loop-way.squares _ _ ∙ inv.1,
       omega arith,
-      visited-new (grid_of c.args.board.now) (board_wide c.args.board.now) c.args.from c.loop-way.way-index Up c.loop-way-test.true _ _ _ c.loop-way.squares
+      visited_new (grid_of c.args.board.now) (board_wide c.args.board.now) c.args.from c.loop-way.way-index Up c.loop-way-test.true _ _ _ c.loop-way.squares
           c.loop-way.n inv.3 c.in-Some.q c.in-Some.ensures c.if-seen-q.false (omega arith) (omega arith),
     )
 
