@@ -45,7 +45,7 @@ const CASES: [Case; 11] = [
         flat: &[0],
         form: 4,
     },
-    // plus-minus one, the two_by_two board's
+    // plus-minus one, the two-by-two board's
     Case {
         upright: &[1],
         flat: &[2],

@@ -1,5 +1,5 @@
 -- The judge's whole answer from its parts, and that no other fits.
-use Rattle.std.proofs.Common.{◌≡◌, ℕ, ◌<◌, true, false, ◌⊎◌, List, Ok, Err, Result, sym, refl, ap, ◌∙◌, subst, inl, inr, ⊎_elim, arith}
+use Rattle.std.proofs.Common.{◌≡◌, ℕ, ◌<◌, true, List, Ok, Err, Result, sym, refl, ap, ◌∙◌, subst, inl, inr, ⊎_elim, arith}
 use Rattle.std.proofs.lemmas.Bool.{both_ways}
 use Rattle.board.specs.Grid.{Grid, Side, free_count}
 use Rattle.board.specs.Reading.{Read, refused, holds, board_read}
@@ -16,7 +16,7 @@ use Rattle.verdict.specs.declared.judge.Judgement.{Judgement}
 use Rattle.verdict.specs.declared.verdict.Said.{Said}
 use Rattle.verdict.specs.declared.verdict.Verdict.{Verdict}
 use Rattle.verdict.specs.declared.verdict.Verdict.TheVariants.{WinsAt, Lost}
-use Rattle.verdict.specs.Judging.{answer_of, Right, Judged, Heard, judged, turned_away, heard, AfterRead, JudgedFile, OneJudgement, OneFileJudgement}
+use Rattle.verdict.specs.Judging.{answer_of, Right, Judged, judged, turned_away, heard, AfterRead, JudgedFile, OneJudgement, OneFileJudgement}
 
 -- the parts of an answer
 pub is_judged : (s : Side) (b : Grid) (x : Judgement) → Rooms-judged b (Ok x.rooms) → Right s b x.said → Judged s b (Ok x)

@@ -1,19 +1,19 @@
 -- A form that tells of a board, compared with form 0, says who has lost on it.
-use Rattle.std.proofs.Common.{◌≡◌, ℕ, ◌<◌, Bool, true, false, ◌⊎◌, List, length, take, MatchBool, subst, inl, inr, ⊎_elim, arith}
+use Rattle.std.proofs.Common.{ℕ, ◌<◌, Bool, true, false, List, length, take, MatchBool, subst, ⊎_elim, arith}
 use Rattle.std.proofs.lemmas.List.{length-take}
 use Rattle.games.specs.Game.{Game, empty}
 use Rattle.games.specs.Order.{Worse, NotWorse}
 use Rattle.games.specs.Count.{Ahead}
 use Rattle.games.proofs.Sides.{worse_not_both}
-use Rattle.board.specs.Grid.{Grid, Side}
-use Rattle.board.specs.Rules.{Wins, Loses, OneOutcome}
+use Rattle.board.specs.Grid.{Side}
+use Rattle.board.specs.Rules.{OneOutcome}
 use Rattle.board.proofs.Outcomes.{one_outcome}
 use Rattle.forms.specs.declared.rows.Form.{Form}
 use Rattle.forms.specs.Meaning.{meaning}
 use Rattle.forms.specs.Links.{Table}
 use Rattle.forms.specs.Laws.{FirstEmpty}
 use Rattle.forms.proofs.Numbers.{first_empty}
-use Rattle.verdict.specs.Worths.{Tells, LostAnswer}
+use Rattle.verdict.specs.Worths.{LostAnswer}
 
 -- by comparing with the empty game
 pub lost_or_wins : (s : Side) (t : Game) (r : Bool) → MatchBool r (Worse s t empty) (Ahead s t) → LostAnswer s t r

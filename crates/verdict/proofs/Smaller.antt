@@ -5,7 +5,7 @@ use Rattle.std.proofs.lemmas.Bool.{and_parts}
 use Rattle.board.specs.Grid.{Grid, Side, free, Edge, Next}
 use Rattle.board.specs.Moves.{laid}
 use Rattle.board.specs.declared.refusal.Refusal.{Refusal}
-use Rattle.rooms.specs.Rooms.{Many, Larger}
+use Rattle.rooms.specs.Rooms.{Many}
 use Rattle.rooms.specs.Values.{SmallRooms, Found}
 use Rattle.rooms.specs.Walks.{Walk, stay, go}
 use Rattle.rooms.proofs.Reach.{many_room}

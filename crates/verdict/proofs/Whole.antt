@@ -1,5 +1,5 @@
 -- The whole answer from the worth of the board and the planks of both sides.
-use Rattle.std.proofs.Common.{◌≡◌, ℕ, true, false, ◌⊎◌, List, length, Some, None, Ok, Err, Option, sym, ◌∙◌, subst, inl, inr, ⊎_elim, arith}
+use Rattle.std.proofs.Common.{◌≡◌, ℕ, true, false, List, length, Some, None, Ok, Err, Option, sym, ◌∙◌, subst, inl, inr, ⊎_elim, arith}
 use Rattle.board.specs.Grid.{Grid, Side, other}
 use Rattle.board.specs.Moves.{may, laid}
 use Rattle.board.specs.Rules.{Says}
@@ -8,7 +8,7 @@ use Rattle.forms.specs.declared.rows.Form.{Form}
 use Rattle.search.specs.Answers.{answer_of}
 use Rattle.search.proofs.Turns.{none_found}
 use Rattle.verdict.specs.Limits.{Over, IsTooMany}
-use Rattle.verdict.specs.Worths.{Worth, WorthAnswer}
+use Rattle.verdict.specs.Worths.{WorthAnswer}
 use Rattle.verdict.specs.Trying.{FirstGood, Tried, TriedAnswer}
 use Rattle.verdict.specs.Choosing.{Chosen}
 use Rattle.verdict.specs.declared.worth.Failure.{Failure}

@@ -1,5 +1,5 @@
 -- The worth of a board from its row of rooms, and boards that are past the limits.
-use Rattle.std.proofs.Common.{◌≡◌, ℕ, ◌<◌, ◌⊎◌, List, length, Ok, Err, sym, refl, ◌∙◌, subst, inl, inr, ⊎_elim, arith}
+use Rattle.std.proofs.Common.{◌≡◌, ℕ, ◌<◌, List, length, Err, ◌∙◌, subst, inl, inr, ⊎_elim, arith}
 use Rattle.games.specs.Game.{Game}
 use Rattle.games.specs.Count.{Member, Count, Wide, OneCount}
 use Rattle.games.proofs.Counting.{one_count}
@@ -10,7 +10,7 @@ use Rattle.rooms.proofs.Reach.{one_list}
 use Rattle.forms.specs.declared.rows.Form.{Form}
 use Rattle.canonical.specs.declared.canonical.Refusal.{Refusal}
 use Rattle.canonical.specs.declared.canonical.Refusal.TheVariants.{Full, Wide as TooWide, NoMemory}
-use Rattle.sums.specs.Counting.{RowIsFormed, RowFull, RoomsAnswer}
+use Rattle.sums.specs.Counting.{RowIsFormed, RoomsAnswer}
 use Rattle.sums.specs.Sums.{HoldsRight}
 use Rattle.verdict.specs.Limits.{Over}
 use Rattle.verdict.specs.Worths.{Worth, WorthAnswer, failure_of}

@@ -1,5 +1,5 @@
 -- The place to lay at, found by forms.
-use Rattle.std.specs.Prelude.{ℕ, List, Ok, Err, Option, Result}
+use Rattle.std.specs.Prelude.{ℕ, Ok, Err, Option, Result}
 use Rattle.board.specs.Grid.{Grid, Side}
 use Rattle.board.specs.Rules.{Says}
 use Rattle.search.specs.Answers.{answer_of}

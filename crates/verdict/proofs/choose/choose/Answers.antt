@@ -1,4 +1,4 @@
-use Rattle.std.proofs.Common.{◌≡◌, length, ◌∙◌}
+use Rattle.std.proofs.Common.{length, ◌∙◌}
 use Rattle.board.specs.Values.{side_of, grid_of}
 use Rattle.rooms.specs.Values.{rooms_of}
 use Rattle.verdict.proofs.Whole.{whole_refused, plank_refused, chosen}

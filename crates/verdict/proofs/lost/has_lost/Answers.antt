@@ -2,7 +2,7 @@ use Rattle.std.proofs.Common.{true, false, take, sym, ap, subst}
 use Rattle.board.specs.Values.{side_of}
 use Rattle.forms.specs.Meaning.{meaning}
 use Rattle.verdict.specs.Worths.{LostAnswer}
-use Rattle.verdict.proofs.Losing.{in_use, by_first}
+use Rattle.verdict.proofs.Losing.{by_first}
 use Rattle.verdict.proofs.lost.has_lost.Goals as goal
 
 pub returns-in-Upright : goal.returns-in-Upright

@@ -1,4 +1,4 @@
-use Rattle.std.proofs.Common.{length, Some, None, vec_items, sym, subst, arith}
+use Rattle.std.proofs.Common.{length, Some, vec_items, sym, subst, arith}
 use Rattle.board.specs.Values.{side_of, grid_of}
 use Rattle.rooms.specs.Values.{rooms_of}
 use Rattle.verdict.specs.Trying.{NotLarge}
