@@ -2,11 +2,10 @@
 use Rattle.std.proofs.Common.{◌≡◌, ℕ, List, Ok, Err, Result, sym, refl, ap, ◌∙◌, subst}
 use Rattle.board.specs.Grid.{Grid, Side}
 use Rattle.board.specs.Reading.{Read, refused, holds, record_read, places_in}
-use Rattle.board.specs.Values.{side_of}
 use Rattle.board.specs.declared.refusal.Refusal.{Refusal}
 use Rattle.verdict.proofs.Answers.{same_side, one_judgement}
 use Rattle.verdict.specs.Judging.{OneJudgement}
-use Rattle.referee.specs.Following.{Played, stopped, ends, played, played_by, Ended, AfterPlay, AfterRead, Followed, OneFollowing}
+use Rattle.referee.specs.Following.{Played, stopped, ends, played, Ended, AfterPlay, AfterRead, Followed, OneFollowing}
 use Rattle.referee.specs.declared.outcome.Outcome.{Outcome}
 use Rattle.referee.specs.declared.outcome.Outcome.TheVariants.{LastMove, Open}
 

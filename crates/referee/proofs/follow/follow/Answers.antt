@@ -1,6 +1,4 @@
 use Rattle.std.proofs.Common.{refl}
-use Rattle.board.specs.Values.{side_of, grid_of}
-use Rattle.referee.specs.Following.{played_by}
 use Rattle.referee.proofs.Standing.{not_read, is_read}
 use Rattle.referee.proofs.follow.follow.Goals as goal
 

@@ -3,8 +3,8 @@ use Rattle.board.specs.Values.{side_of, grid_of}
 use Rattle.referee.proofs.Planks.{play_stops, play_goes, play_ends}
 use Rattle.referee.proofs.follow.play.Goals as goal
 
-pub returns-in-default : goal.returns-in-default
-returns-in-default c = play_stops c.args.places.now _ (side_of c.loop-i.side) (grid_of c.loop-i.board) _ c.loop-i.invariant c.loop-i-test.true c.in-default.ensures
+pub returns-in_default : goal.returns-in_default
+returns-in_default c = play_stops c.args.places.now _ (side_of c.loop-i.side) (grid_of c.loop-i.board) _ c.loop-i.invariant c.loop-i-test.true c.in_default.ensures
 
 pub loop-i-preserved : goal.loop-i-preserved
 loop-i-preserved c =
