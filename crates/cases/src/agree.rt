@@ -1,5 +1,5 @@
 // Forms and play, compared on every board of three by three.
-use crate::all_forms_of::BLANK;
+use crate::forms_of::BLANK;
 use board::read::read_board;
 use forms::table::start;
 use rooms::find::all_rooms;

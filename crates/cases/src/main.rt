@@ -9,7 +9,7 @@ use tallies::counts;
 use verdict::judge::judge_file;
 
 mod agree;
-mod all_forms_of;
+mod forms_of;
 mod tallies;
 
 // A board by its name, its width and height, and its squares, row after row.

@@ -1,5 +1,5 @@
 // Boards with known counts, forms and rooms that are alike.
-use crate::all_forms_of::BLANK;
+use crate::forms_of::BLANK;
 use board::read::read_board;
 use forms::table::start;
 use rooms::find::all_rooms;

@@ -10,7 +10,7 @@ unfolding Found
 choose-requires c =
     let begun = c.in-Some.ensures in
     record {
-      rooms = c.in-Ok-all-rooms.ensures;
+      rooms = c.in-Ok-all_rooms.ensures;
       table = subst (Table c.start.new.forms (replicate 4096 0)) (sym begun.0) begun.1;
       pairs = holds_none c.start.new.forms (replicate 4096 0) c.in-Some.used (replicate 512 0) (zeros 512);
     }

@@ -9,9 +9,9 @@ use Rattle.cases.proofs.forms_of.tell_rooms.Goals as goal
 pub new-moves-requires : goal.new-moves-requires
 unfolding Found
 new-moves-requires c =
-    let rooms = c.in-Ok-all-rooms.ensures.rooms.each in
-    let slice = c.as-slice-room-items.result.now in
-    let listed = c.as-slice-room-items.ensures in
+    let rooms = c.in-Ok-all_rooms.ensures.rooms.each in
+    let slice = c.as_slice-room-items.result.now in
+    let listed = c.as_slice-room-items.ensures in
     let long = slice_long slice _ listed in
     record {
       room = subst (Room (grid_of c.in-Ok.setup.board)) (sym (slice_at slice _ c.loop-room.room-index c.room-item.result listed c.loop-room-test.true c.room-item.is))
