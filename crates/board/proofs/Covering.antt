@@ -1,6 +1,6 @@
 -- What a move covers. Only this file and the contract of the function that gives the squares look at a move's shape.
 use Rattle.std.proofs.Common.{◌≡◌, ℕ, ◌+◌, ◌%◌, ◌<◌, true, false, ltb, List, [], ◌∷◌, length, sym, refl, ap, ◌∙◌, inl, inr, arith}
-use Rattle.std.specs.List.{AllByRecursion as All}
+use Rattle.std.specs.List.{AllByRecursion as Every}
 use Rattle.std.proofs.ByRecursion.{all-has}
 use Rattle.std.proofs.lemmas.Bool.{and_parts, ltb-true}
 use Rattle.board.specs.Grid.{Grid, Side, free, Edge, Next}
@@ -22,7 +22,7 @@ covers_linked b false p wide e =
     let inside = ltb-true (p % b.width + 1) b.width (and_parts (ltb (p % b.width + 1) b.width) _ e).0 in
     next p (0, omega arith, λ d. refl) (inl (inr (refl, inside), λ same. omega arith)) done
 
-pub all_are_free : (b : Grid) (qs : List ℕ) → each_free b qs ≡ true → All (λ q. free b q ≡ true) qs
+pub all_are_free : (b : Grid) (qs : List ℕ) → each_free b qs ≡ true → Every (λ q. free b q ≡ true) qs
 all_are_free b [] e = tt
 all_are_free b (q ∷ qs) e = let parts = and_parts (free b q) (each_free b qs) e in (parts.0, all_are_free b qs parts.1)
 
@@ -42,7 +42,7 @@ moves_law b s p wide m =
 -- what spreads from a square to its free neighbours, spreads over linked squares
 pub spread :
     (b : Grid) (P : ℕ → Type 0) → ((q r : ℕ) → P q → Next b q r → free b r ≡ true → P r) →
-    {before after : List ℕ} → Linked b before after → All P before → All (λ q. free b q ≡ true) after → All P after
+    {before after : List ℕ} → Linked b before after → Every P before → Every (λ q. free b q ≡ true) after → Every P after
 spread b P step done known open_squares = tt
 spread b P step (next {before = before} {q = q} r i near rest) known open_squares =
     let here = step r q (all-has P before r known i) near open_squares.0 in

@@ -1,6 +1,6 @@
 -- What may be known of the squares that a move covers, whatever its shape.
 use Rattle.std.specs.Prelude.{◌≡◌, ℕ, ◌<◌, true, List, [], ◌∷◌, length}
-use Rattle.std.specs.List.{ContainsAt as Has, AllByRecursion as All}
+use Rattle.std.specs.List.{ContainsAt as Has, AllByRecursion as Every}
 use Rattle.board.specs.Grid.{Grid, Side, free, Next}
 use Rattle.board.specs.Moves.{covers, may}
 
@@ -15,7 +15,7 @@ pub record Covering (b : Grid) (s : Side) (p : ℕ) : Type 0 where
   pub rest : List ℕ
   pub squares : covers b.width (length b.cells) s p ≡ p ∷ second ∷ rest
   pub linked : Linked b (p ∷ []) (second ∷ rest)
-  pub all : All (λ q. free b q ≡ true) (p ∷ second ∷ rest)
+  pub all : Every (λ q. free b q ≡ true) (p ∷ second ∷ rest)
 
 -- so it is on every board that is at least one square wide
 unfoldable pub MovesLaw : Type 0

@@ -1,6 +1,6 @@
 -- A number put into a rising row.
 use Rattle.std.proofs.Common.{◌≡◌, ℕ, zero, suc, ◌+◌, ◌<◌, ◌≤◌, ◌⊎◌, List, [], ◌∷◌, ◌++◌, length, get_or, take, drop, sym, ◌∙◌, subst, inl, inr, arith}
-use Rattle.std.specs.List.{ContainsAt as Has, AllByRecursion as All}
+use Rattle.std.specs.List.{ContainsAt as Has, AllByRecursion as Every}
 use Rattle.std.proofs.lemmas.List.{take-append-drop, take_all, drop_more, drop_all}
 use Rattle.std.proofs.ByRecursion.{All-append, All-take, All-weaker, has_get_or, has_append_left, has_append_right}
 use Rattle.std.proofs.lemmas.Bool.{cases_lt}
@@ -8,7 +8,7 @@ use Rattle.forms.specs.Rows.{Rising}
 use Rattle.forms.proofs.Risings.{has_here, has_there, has_cases}
 use Rattle.canonical.specs.Reducing.{Inserted}
 
-pub rising_append : (xs ys : List ℕ) → Rising xs → Rising ys → All (λ x. All (λ y. x < y) ys) xs → Rising (xs ++ ys)
+pub rising_append : (xs ys : List ℕ) → Rising xs → Rising ys → Every (λ x. Every (λ y. x < y) ys) xs → Rising (xs ++ ys)
 rising_append [] ys p q h = q
 rising_append (x ∷ xs) ys p q h = (All-append (λ y. x < y) xs ys p.0 h.0, rising_append xs ys p.1 q h.1)
 
@@ -41,8 +41,8 @@ pub has_split : (n : ℕ) (xs : List ℕ) (w : ℕ) → Has xs w → Has (take n
 has_split n xs w h = has_append_cases (take n xs) (drop n xs) w (subst (λ l. Has l w) (sym (take-append-drop n xs)) h)
 
 -- what holds of the first n numbers holds of all that there are
-pub all_end : (P : ℕ → Type 0) (xs : List ℕ) (n : ℕ) → length xs ≤ n → All P (take n xs) → All P (take (length xs) xs)
-all_end P xs n h all = subst (All P) (take_all n xs h ∙ sym (take_all (length xs) xs (omega arith))) all
+pub all_end : (P : ℕ → Type 0) (xs : List ℕ) (n : ℕ) → length xs ≤ n → Every P (take n xs) → Every P (take (length xs) xs)
+all_end P xs n h all = subst (Every P) (take_all n xs h ∙ sym (take_all (length xs) xs (omega arith))) all
 
 -- the row has the number already
 pub already : (row : List ℕ) (x i : ℕ) → Rising row → (held : List ℕ) → held ≡ row → i < length held → get_or held i 0 ≡ x → Inserted row x row
@@ -50,18 +50,18 @@ already row x i up held same h e = let e : get_or row i 0 ≡ x = subst (λ l. g
 
 -- the number goes in after i lower ones
 module _
-    (row : List ℕ) (x i : ℕ) (up : Rising row) (before : All (λ y. y < x) (take i row)) (after : i < length row → x ≤ get_or row i 0)
+    (row : List ℕ) (x i : ℕ) (up : Rising row) (before : Every (λ y. y < x) (take i row)) (after : i < length row → x ≤ get_or row i 0)
     (other : i < length row → get_or row i 0 ≡ x → ⊥) where
-  above : All (λ y. x < y) (drop i row)
+  above : Every (λ y. x < y) (drop i row)
   above = go (cases_lt i (length row))
     where
-      go : (i < length row) ⊎ (length row ≤ i) → All (λ y. x < y) (drop i row)
-      go (inr h) = subst (All (λ y. x < y)) (sym (drop_all i row h)) tt
+      go : (i < length row) ⊎ (length row ≤ i) → Every (λ y. x < y) (drop i row)
+      go (inr h) = subst (Every (λ y. x < y)) (sym (drop_all i row h)) tt
       go (inl h) =
           let e = drop_more row i 0 h in
           let more : x < get_or row i 0 = let a = after h in let ne = other h in elim (cases_lt x (get_or row i 0)) [ inl l ↦ l | inr l ↦ absurd (ne (let eq : get_or row i 0 ≡ x = omega arith in eq)) ] in
           let rest = subst Rising e (rising_drop i row up) in
-          subst (All (λ y. x < y)) (sym e) (more, All-weaker (λ y. get_or row i 0 < y) (λ y. x < y) (λ y l. omega arith) (drop (i + 1) row) rest.0)
+          subst (Every (λ y. x < y)) (sym e) (more, All-weaker (λ y. get_or row i 0 < y) (λ y. x < y) (λ y l. omega arith) (drop (i + 1) row) rest.0)
 
   pub put_in : (new : List ℕ) → new ≡ take i row ++ x ∷ drop i row → Inserted row x new
   put_in new e =
@@ -69,7 +69,7 @@ module _
       (record {
         rising =
             rising_append (take i row) (x ∷ drop i row) (rising_take i row up) (above, rising_drop i row up)
-            (All-weaker (λ y. y < x) (λ y. All (λ z. y < z) (x ∷ drop i row)) (λ y l. (l, All-weaker (λ z. x < z) (λ z. y < z) (λ z m. omega arith) (drop i row) above)) (take i row) before);
+            (All-weaker (λ y. y < x) (λ y. Every (λ z. y < z) (x ∷ drop i row)) (λ y l. (l, All-weaker (λ z. x < z) (λ z. y < z) (λ z m. omega arith) (drop i row) above)) (take i row) before);
         stays =
             λ w h. elim (has_split i row w h) [
               | inl k ↦ has_append_left (take i row) (x ∷ drop i row) w k

@@ -1,6 +1,6 @@
 -- Forms kept in a row, or what serves for them.
 use Rattle.std.proofs.Common.{◌≡◌, ℕ, ◌+◌, ◌<◌, ◌≤◌, List, [], length, get_or, take, sym, ◌∙◌, subst, inl, inr}
-use Rattle.std.specs.List.{ContainsAt as Has, AllByRecursion as All}
+use Rattle.std.specs.List.{ContainsAt as Has, AllByRecursion as Every}
 use Rattle.std.proofs.lemmas.List.{take_all}
 use Rattle.std.proofs.ByRecursion.{All-more, All-weaker, all-has}
 use Rattle.games.specs.Game.{Side, other, Game, options, In}
@@ -23,7 +23,7 @@ serves_more fs os s g row new stays x serves k others has = serves k others (λ 
 pub record Passing (fs : List Form) (os : List ℕ) (s : Side) (g : Game) (row new xs : List ℕ) : Type 0 where
   pub fit : Fit fs os s g new
   pub stays : (w : ℕ) → Has row w → Has new w
-  pub serves : All (λ x. Serves fs os s g new (meaning fs os x)) xs
+  pub serves : Every (λ x. Serves fs os s g new (meaning fs os x)) xs
 
 module _ (fs : List Form) (os : List ℕ) (s : Side) (g : Game) where
   pub fit_none : Fit fs os s g []

@@ -1,6 +1,6 @@
 -- Dominated forms struck from a row, one after the other.
 use Rattle.std.proofs.Common.{◌≡◌, ℕ, zero, suc, ◌+◌, ◌<◌, ◌≤◌, ◌⊎◌, List, [], ◌∷◌, ◌++◌, length, get_or, take, drop, sym, ◌∙◌, subst, inl, inr, arith}
-use Rattle.std.specs.List.{ContainsAt as Has, AllByRecursion as All}
+use Rattle.std.specs.List.{ContainsAt as Has, AllByRecursion as Every}
 use Rattle.std.proofs.lemmas.List.{drop_more, drop_all, take_more}
 use Rattle.std.proofs.ByRecursion.{all-has, All-from_get_or, has_get_or, has_push, has_append_left, has_push_cases}
 use Rattle.games.specs.Game.{Side}
@@ -14,11 +14,11 @@ use Rattle.canonical.specs.Reducing.{Thinned}
 use Rattle.canonical.proofs.Inserting.{rising_append, has_take}
 
 -- what holds of each number that a row has, holds of all
-pub all_from_has : (P : ℕ → Type 0) (xs : List ℕ) → ((w : ℕ) → Has xs w → P w) → All P xs
+pub all_from_has : (P : ℕ → Type 0) (xs : List ℕ) → ((w : ℕ) → Has xs w → P w) → Every P xs
 all_from_has P xs each = All-from_get_or P xs 0 (λ i h. each (get_or xs i 0) (has_get_or xs i 0 h))
 
 -- the numbers before a place of a rising row are lower
-pub before_lower : (i : ℕ) (xs : List ℕ) → Rising xs → i < length xs → All (λ w. w < get_or xs i 0) (take i xs)
+pub before_lower : (i : ℕ) (xs : List ℕ) → Rising xs → i < length xs → Every (λ w. w < get_or xs i 0) (take i xs)
 before_lower zero xs up h = tt
 before_lower (suc i) [] up h = tt
 before_lower (suc i) (x ∷ xs) up h =
@@ -84,7 +84,7 @@ module _ (fs : List Form) (os : List ℕ) (s : Side) (row : List ℕ) where
         rises : Rising (best ++ x ∷ [])
         rises =
             rising_append best (x ∷ []) t.rising (tt, tt)
-            (all_from_has (λ w. All (λ y. w < y) (x ∷ [])) best (λ w k. (all-has (λ w. w < x) (take i row) w (before_lower i row up h) (t.from w k), tt)))
+            (all_from_has (λ w. Every (λ y. w < y) (x ∷ [])) best (λ w k. (all-has (λ w. w < x) (take i row) w (before_lower i row up h) (t.from w k), tt)))
 
         from : (w : ℕ) → Has (best ++ x ∷ []) w → Has (take (i + 1) row) w
         from w k =

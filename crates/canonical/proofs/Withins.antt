@@ -1,6 +1,6 @@
 -- A form compared with the game as given, by the options of both.
 use Rattle.std.proofs.Common.{◌≡◌, ℕ, ◌<◌, List, length, get_or, sym, subst}
-use Rattle.std.specs.List.{ContainsAt as Has, AllByRecursion as All}
+use Rattle.std.specs.List.{ContainsAt as Has, AllByRecursion as Every}
 use Rattle.std.proofs.ByRecursion.{All-get_or, all-has, has_get_or}
 use Rattle.games.specs.Game.{Side, other}
 use Rattle.games.specs.Order.{Worse, NotWorse}
@@ -29,7 +29,7 @@ module _ (fs : List Form) (os : List ℕ) (sound : Sound fs os) (us ls : List �
       (in_given fs os us ls (other s) (get_or ys i 0) (subst (λ zs. Has zs (get_or ys i 0)) e (has_get_or ys i 0 h))) p
 
   pub within_all :
-      All (λ x. NotWorse s (given fs os us ls) (meaning fs os x)) (row_of fs os s k) → All (λ y. NotWorse s (meaning fs os y) (meaning fs os k)) (row_for (other s) us ls) →
+      Every (λ x. NotWorse s (given fs os us ls) (meaning fs os x)) (row_of fs os s k) → Every (λ y. NotWorse s (meaning fs os y) (meaning fs os k)) (row_for (other s) us ls) →
       Worse s (meaning fs os k) (given fs os us ls)
   within_all own replies =
       worse_by s (meaning fs os k) (given fs os us ls) (of_row fs os sound (NotWorse s (given fs os us ls)) s k low own)

@@ -1,6 +1,6 @@
 // Rows of numbers that rise.
 ghost use Rattle.std.specs.Prelude.{◌<◌, ◌≤◌, length, take, OnOk, slice_index};
-ghost use Rattle.std.specs.List.{AllByRecursion as All};
+ghost use Rattle.std.specs.List.{AllByRecursion as Every};
 ghost use Rattle.forms.specs.Rows.{Rising};
 ghost use Rattle.canonical.specs.Reducing.{Inserted};
 
@@ -23,7 +23,7 @@ pub fn insert(row: &mut Vec<u16>, x: u16) -> Result<(), AllocError>
 // How many numbers at the start of a row are below x.
 fn count_below(row: &[u16], x: u16) -> usize
     ensures within { result ≤ length row.now }
-    ensures before { All (λ y. y < x) (take result row.now) }
+    ensures before { Every (λ y. y < x) (take result row.now) }
     ensures after { result < length row.now → x ≤ slice_index row.now result }
 {
     for (i, y) in row.iter().enumerate() {

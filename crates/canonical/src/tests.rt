@@ -1,6 +1,6 @@
 // Small games by hand: each line gives two rows of forms, and the number of the form that they come to.
 ghost use Rattle.std.specs.Prelude.{◌≡◌, ◌<◌, true, IfOk};
-ghost use Rattle.std.specs.List.{AllByRecursion as All};
+ghost use Rattle.std.specs.List.{AllByRecursion as Every};
 ghost use Rattle.forms.specs.Links.{Table};
 
 use crate::canonical::{Placed, canonical};
@@ -123,7 +123,7 @@ fn place(
 
 // Are all numbers of a row below a bound.
 fn are_below(row: &[u16], bound: u16) -> bool
-    ensures { result ≡ true → All (λ x. x < bound) row.now }
+    ensures { result ≡ true → Every (λ x. x < bound) row.now }
 {
     for x in row {
         if *x >= bound {

@@ -1,6 +1,6 @@
 -- Sound rows with one form more are sound, and the older forms are as they were.
 use Rattle.std.proofs.Common.{◌≡◌, ℕ, suc, ◌+◌, ◌*◌, ◌<◌, ◌≤◌, true, false, ◌⊎◌, List, length, get_or, sym, refl, ap, ◌∙◌, subst, inl, inr, arith, below_more}
-use Rattle.std.specs.List.{AllByRecursion as All}
+use Rattle.std.specs.List.{AllByRecursion as Every}
 use Rattle.std.proofs.ByRecursion.{All-weaker}
 use Rattle.std.proofs.lemmas.Bool.{cases_lt}
 use Rattle.games.specs.Game.{Side, game}
@@ -69,8 +69,8 @@ module _
         few = few;
         below =
             λ s.
-            each (λ k. All (λ x. x < k) (row_of gs ps s k)) (λ k h. subst (All (λ x. x < k)) (sym (older s k h)) (sound.below s k h))
-            (subst (All (λ x. x < length fs)) (sym (new s)) (fresh.known s));
+            each (λ k. Every (λ x. x < k) (row_of gs ps s k)) (λ k h. subst (Every (λ x. x < k)) (sym (older s k h)) (sound.below s k h))
+            (subst (Every (λ x. x < length fs)) (sym (new s)) (fresh.known s));
         rising = λ s. each (λ k. Rising (row_of gs ps s k)) (λ k h. subst Rising (sym (older s k h)) (sound.rising s k h)) (subst Rising (sym (new s)) (fresh.rising s));
         canonical = each (λ k. Canonical (meaning gs ps k)) (λ k h. subst Canonical (sym (kept_more.games k h)) (sound.canonical k h)) (subst Canonical (sym meaning_new) fresh.canonical);
         apart = apart_more;

@@ -1,6 +1,6 @@
 -- In sound rows a form is equal to itself alone.
 use Rattle.std.proofs.Common.{◌≡◌, ℕ, zero, suc, ◌+◌, ◌<◌, true, false, List, [], ◌∷◌, length, sym, refl, subst, arith}
-use Rattle.std.specs.List.{ContainsAt as Has, AllByRecursion as All}
+use Rattle.std.specs.List.{ContainsAt as Has, AllByRecursion as Every}
 use Rattle.std.proofs.ByRecursion.{all-has}
 use Rattle.games.specs.Game.{Side, game, options, In, empty}
 use Rattle.games.specs.Order.{Equal}
@@ -46,7 +46,7 @@ unfolding OneNumber
 one_number fs os sound j k hj hk = (same_number fs os sound j k hj hk, λ e. subst (λ i. Equal (meaning fs os j) (meaning fs os i)) e (equal_refl (meaning fs os j)))
 
 -- a row below 0 is empty
-empty_row : (xs : List ℕ) → All (λ x. x < 0) xs → xs ≡ []
+empty_row : (xs : List ℕ) → Every (λ x. x < 0) xs → xs ≡ []
 empty_row [] h = refl
 empty_row (x ∷ xs) h = absurd (omega (arith, h.0))
 

@@ -1,6 +1,6 @@
 -- Where a row lies, and what it holds.
 use Rattle.std.proofs.Common.{◌≡◌, ℕ, ◌+◌, ◌-◌, ◌<◌, ◌≤◌, true, false, List, length, get_or, take, drop, sym, ap, subst, arith}
-use Rattle.std.specs.List.{AllByRecursion as All}
+use Rattle.std.specs.List.{AllByRecursion as Every}
 use Rattle.std.proofs.ByRecursion.{All-get_or}
 use Rattle.games.specs.Game.{Side}
 use Rattle.forms.specs.declared.rows.Form.{Form}
@@ -22,4 +22,4 @@ part_within fs os false k sound h = omega (arith, sound.few false k h)
 
 -- the numbers of a row are below its owner
 pub option_below : (fs : List Form) (os : List ℕ) (s : Side) (k : ℕ) → Sound fs os → k < length fs → (xs : List ℕ) → xs ≡ row_of fs os s k → (i : ℕ) → i < length xs → get_or xs i 0 < k
-option_below fs os s k sound h xs e i less = All-get_or (λ x. x < k) xs i 0 less (subst (All (λ x. x < k)) (sym e) (sound.below s k h))
+option_below fs os s k sound h xs e i less = All-get_or (λ x. x < k) xs i 0 less (subst (Every (λ x. x < k)) (sym e) (sound.below s k h))

@@ -1,6 +1,6 @@
 -- Rows that rise.
 use Rattle.std.proofs.Common.{◌≡◌, ℕ, zero, suc, ◌<◌, ◌≤◌, ◌⊎◌, List, [], ◌∷◌, length, get_or, sym, refl, inl, inr, suc-le-suc, arith}
-use Rattle.std.specs.List.{ContainsAt as Has, AllByRecursion as All}
+use Rattle.std.specs.List.{ContainsAt as Has, AllByRecursion as Every}
 use Rattle.std.proofs.ByRecursion.{all-has}
 use Rattle.forms.specs.Rows.{Rising}
 
@@ -21,11 +21,11 @@ has_cases x y xs (k, l, e) = go k l e
 pub has_none : {y : ℕ} → Has [] y → ⊥
 has_none h = omega (arith, h.1)
 
-least : (a b : ℕ) (bs : List ℕ) → All (λ c. b < c) bs → Has (b ∷ bs) a → b ≤ a
+least : (a b : ℕ) (bs : List ℕ) → Every (λ c. b < c) bs → Has (b ∷ bs) a → b ≤ a
 least a b bs above h = elim (has_cases b a bs h) [ inl e ↦ omega arith | inr k ↦ (let low = all-has (λ c. b < c) bs a above k in omega arith) ]
 
 -- rows with the same least number have the same others
-rest_has : (a b : ℕ) (ks bs : List ℕ) → a ≡ b → All (λ c. a < c) ks → ((z : ℕ) → Has (a ∷ ks) z → Has (b ∷ bs) z) → (z : ℕ) → Has ks z → Has bs z
+rest_has : (a b : ℕ) (ks bs : List ℕ) → a ≡ b → Every (λ c. a < c) ks → ((z : ℕ) → Has (a ∷ ks) z → Has (b ∷ bs) z) → (z : ℕ) → Has ks z → Has bs z
 rest_has a b ks bs e above f z h =
     let more = all-has (λ c. a < c) ks z above h in
     elim (has_cases b z bs (f z (has_there a z ks h))) [ inl same ↦ absurd (omega arith) | inr k ↦ k ]

@@ -1,6 +1,6 @@
 -- A table of one form, the empty game.
 use Rattle.std.proofs.Common.{◌≡◌, ℕ, ◌*◌, ◌<◌, ◌≤◌, true, false, List, [], length, get_or, take, drop, sym, refl, ap, ◌∙◌, subst, inl, inr, arith}
-use Rattle.std.specs.List.{AllByRecursion as All}
+use Rattle.std.specs.List.{AllByRecursion as Every}
 use Rattle.std.proofs.lemmas.List.{get_or-set_same, get_or-set_other, get_or-take, length-set, length-take-le}
 use Rattle.std.proofs.lemmas.Bool.{cases_eq}
 use Rattle.games.specs.Game.{Side, other, game, options, In, empty}
@@ -59,7 +59,7 @@ module _
       record {
         room = let l = in_use in omega arith;
         few = λ s. all_in_use (λ k. many s (get_or (take 1 gs) k blank) ≤ 16) (subst (λ m. m ≤ 16) (sym (no_options s)) (omega arith));
-        below = λ s. all_in_use (λ k. All (λ x. x < k) (row_of (take 1 gs) os s k)) (subst (All (λ x. x < 0)) (sym (no_row s)) tt);
+        below = λ s. all_in_use (λ k. Every (λ x. x < k) (row_of (take 1 gs) os s k)) (subst (Every (λ x. x < 0)) (sym (no_row s)) tt);
         rising = λ s. all_in_use (λ k. Rising (row_of (take 1 gs) os s k)) (subst Rising (sym (no_row s)) tt);
         canonical = all_in_use (λ k. Canonical (meaning (take 1 gs) os k)) (subst Canonical (sym first_is_empty) empty_canonical);
         apart = λ j k hj hk same. let l = in_use in omega arith;

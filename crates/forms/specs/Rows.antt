@@ -1,6 +1,6 @@
 -- Where the rows of forms lie in the lent memory, and rows that rise.
 use Rattle.std.specs.Prelude.{ℕ, ◌+◌, ◌*◌, ◌<◌, true, false, List, [], ◌∷◌, take, drop, slice_index_or}
-use Rattle.std.specs.List.{AllByRecursion as All}
+use Rattle.std.specs.List.{AllByRecursion as Every}
 use Rattle.games.specs.Game.{Side}
 use Rattle.forms.specs.declared.rows.Form.{Form}
 
@@ -25,7 +25,7 @@ row_of fs os s k = take (many s (slice_index_or fs k blank)) (drop (place s k) o
 -- each number is below all that follow it
 abbrev pub Rising : List ℕ → Type 0
 Rising [] = Unit {0}
-Rising (x ∷ xs) = All (λ y. x < y) xs × Rising xs
+Rising (x ∷ xs) = Every (λ y. x < y) xs × Rising xs
 
 -- of two rows that of a side
 abbrev pub row_for : Side → List ℕ → List ℕ → List ℕ

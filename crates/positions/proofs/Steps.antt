@@ -1,7 +1,7 @@
 -- The moves of a room at a position: which there are, and where they lead.
 use Rattle.std.proofs.Common.{◌≡◌, ℕ, ◌-◌, ◌^◌, ◌<◌, Bool, true, false, not, ◌&&◌, ltb, List, [], ◌∷◌, length, get_or, sym, refl, ap, ◌∙◌, subst, ⊎_elim}
 use lib.Bits.{bit_and}
-use Rattle.std.specs.List.{ContainsAt as Has, AllByRecursion as All}
+use Rattle.std.specs.List.{ContainsAt as Has, AllByRecursion as Every}
 use Rattle.std.proofs.ByRecursion.{all-has, has_get_or}
 use Rattle.std.proofs.lemmas.Bool.{both_ways, cases_Bool, and_parts, and_from, not-true, lt-ltb, ltb-true}
 use Rattle.std.proofs.lemmas.Bool.Decides.{when_true, same_from_decides}
@@ -20,15 +20,15 @@ use Rattle.positions.proofs.Choices.{At, chosen_has, has_chosen, one_number}
 of_all_among : (ps qs : List ℕ) → all_among ps qs ≡ true → (p : ℕ) → Has ps p → Has qs p
 of_all_among ps qs e p h = all-has (Has qs) ps p (each ps e) h
   where
-    each : (ps : List ℕ) → all_among ps qs ≡ true → All (Has qs) ps
+    each : (ps : List ℕ) → all_among ps qs ≡ true → Every (Has qs) ps
     each [] e = tt
     each (p ∷ ps) e = let parts = and_parts (among qs p) (all_among ps qs) e in (among_has qs p parts.0, each ps parts.1)
 
-to_all_among : (ps qs : List ℕ) → All (Has qs) ps → all_among ps qs ≡ true
+to_all_among : (ps qs : List ℕ) → Every (Has qs) ps → all_among ps qs ≡ true
 to_all_among [] qs h = refl
 to_all_among (p ∷ ps) qs h = and_from (among qs p) (all_among ps qs) (has_among qs p h.0) (to_all_among ps qs h.1)
 
-all_free_from : (b : Grid) (ps : List ℕ) → All (λ p. free b p ≡ true) ps → each_free b ps ≡ true
+all_free_from : (b : Grid) (ps : List ℕ) → Every (λ p. free b p ≡ true) ps → each_free b ps ≡ true
 all_free_from b [] h = refl
 all_free_from b (p ∷ ps) h = and_from (free b p) (each_free b ps) h.0 (all_free_from b ps h.1)
 
@@ -109,7 +109,7 @@ module _ (b : Grid) (qs : List ℕ) (room : (q : ℕ) → Has qs q → free b q 
 
 -- and every move that may be made at a position is one of these
 module _ (b : Grid) (qs : List ℕ) (rise : Rise (λ q. q) qs) (s : Side) (set p : ℕ) (lawful : may (position b qs set) s p ≡ true) where
-  held : (may b s p ≡ true) × All (Has (chosen qs set)) (covered b s p)
+  held : (may b s p ≡ true) × Every (Has (chosen qs set)) (covered b s p)
   unfolding position
   held = of_through b (chosen qs set) s p lawful
 
@@ -117,7 +117,7 @@ module _ (b : Grid) (qs : List ℕ) (rise : Rise (λ q. q) qs) (s : Side) (set p
   pub place_at : At qs set p
   place_at =
       let first = covers_from b.width (length b.cells) s p in
-      has_chosen qs set p (subst (All (Has (chosen qs set))) first.2 held.1).0
+      has_chosen qs set p (subst (Every (Has (chosen qs set))) first.2 held.1).0
 
   pub inside_at : inside b qs s place_at.number ≡ true
   unfolding may

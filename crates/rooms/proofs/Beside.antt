@@ -1,6 +1,6 @@
 -- The board and its rooms beside each other.
 use Rattle.std.proofs.Common.{◌≡◌, ℕ, zero, suc, ◌<◌, ◌≤◌, true, List, [], ◌∷◌, map, length, get_or, set, sym, refl, ap, ◌∙◌, subst, inl, inr, ⊎_elim, arith}
-use Rattle.std.specs.List.{ContainsAt as Has, AllByRecursion as All}
+use Rattle.std.specs.List.{ContainsAt as Has, AllByRecursion as Every}
 use Rattle.std.proofs.lemmas.List.{get_or-map, length-map}
 use Rattle.std.proofs.ByRecursion.{all-has, All-get_or}
 use Rattle.games.specs.Game.{Game, options, In, empty}
@@ -50,12 +50,12 @@ set_map f g (x ∷ xs) (suc i) d less each =
 
 -- lists of squares that split a board: each lawful move lies in one of them, and no square in two
 record Split (b : Grid) (rs : List (List ℕ)) : Type 0 where
-  one : (s : Side) (p : ℕ) → may b s p ≡ true → (i : ℕ) × (i < length rs) × All (Has (get_or rs i [])) (covered b s p)
+  one : (s : Side) (p : ℕ) → may b s p ≡ true → (i : ℕ) × (i < length rs) × Every (Has (get_or rs i [])) (covered b s p)
   no_two : (q i j : ℕ) → i < length rs → j < length rs → Has (get_or rs i []) q → Has (get_or rs j []) q → i ≡ j
 
 split_laid : (b : Grid) (rs : List (List ℕ)) → Split b rs → (s : Side) (p : ℕ) → Split (laid b s p) rs
 split_laid b rs x s p = record {
-  one = λ t q m. let y = x.one t q (may_laid b s t p q m) in (y.0, y.1, subst (All (Has (get_or rs y.0 []))) (sym (covered_laid b s t p q)) y.2);
+  one = λ t q m. let y = x.one t q (may_laid b s t p q m) in (y.0, y.1, subst (Every (Has (get_or rs y.0 []))) (sym (covered_laid b s t p q)) y.2);
   no_two = x.no_two;
 }
 
@@ -65,7 +65,7 @@ row n b rs = map (λ r. tree n (through b r)) rs
 
 module _ (n : ℕ) (b : Grid) (rs : List (List ℕ)) (x : Split b rs) (enough : free_count b.cells ≤ n) (s : Side) where
   -- a move in one room changes that room alone
-  row_after : (i p : ℕ) → i < length rs → All (Has (get_or rs i [])) (covered b s p) → set (row n b rs) i (tree n (laid (through b (get_or rs i [])) s p)) ≡ row n (laid b s p) rs
+  row_after : (i p : ℕ) → i < length rs → Every (Has (get_or rs i [])) (covered b s p) → set (row n b rs) i (tree n (laid (through b (get_or rs i [])) s p)) ≡ row n (laid b s p) rs
   unfolding laid
   row_after i p less inside =
       ap (λ c. set (row n b rs) i (tree n c)) (laid_through b (get_or rs i []) s p)
@@ -120,8 +120,8 @@ rooms_split b rs wide x = record {
       let move = moves_law b s p wide m in
       let r = x.whole p move.second move.all.0 move.all.1.0 (second_next move.linked) in
       let room = all-has (Room b) rs r.0 x.each r.1 in
-      let squares : All (Has r.0) (p ∷ move.second ∷ move.rest) = (r.2, spread b (Has r.0) room.closed move.linked (r.2, tt) move.all.1) in
-      (r.1.0, r.1.1, subst (λ t. All (Has t) (covered b s p)) (sym (r.1.2 [])) (subst (All (Has r.0)) (sym move.squares) squares));
+      let squares : Every (Has r.0) (p ∷ move.second ∷ move.rest) = (r.2, spread b (Has r.0) room.closed move.linked (r.2, tt) move.all.1) in
+      (r.1.0, r.1.1, subst (λ t. Every (Has t) (covered b s p)) (sym (r.1.2 [])) (subst (Every (Has r.0)) (sym move.squares) squares));
   no_two = λ q i j hi hj gi gj.
       rise_place first rs i j [] x.rising hi hj
       (same_room b (get_or rs i []) (get_or rs j []) q (All-get_or (Room b) rs i [] hi x.each) (All-get_or (Room b) rs j [] hj x.each) gi gj);

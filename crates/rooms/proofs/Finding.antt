@@ -1,6 +1,6 @@
 -- The rooms found so far, square after square.
 use Rattle.std.proofs.Common.{◌≡◌, ℕ, ◌+◌, ◌<◌, ◌≤◌, Bool, true, false, List, [], ◌∷◌, ◌++◌, map, length, get_or, take, set, replicate, sym, ap, ◌∙◌, subst, ⊎_elim, arith}
-use Rattle.std.specs.List.{ContainsAt as Has, AllByRecursion as All}
+use Rattle.std.specs.List.{ContainsAt as Has, AllByRecursion as Every}
 use Rattle.std.proofs.lemmas.List.{get_or-replicate, get_or_past, length_push, length-replicate, length-map, length-take, length-take-le, take_more_set, map_push, get_or-map}
 use Rattle.std.proofs.ByRecursion.{all-has, All-push, All-weaker, has_append_left, has_push, has_get_or}
 use Rattle.std.proofs.lemmas.Bool.{both_ways, cases_lt, cases_order}
@@ -18,10 +18,10 @@ use Rattle.rooms.proofs.Beside.{rooms_law}
 
 -- the squares below p were looked at: the marked squares are closed under free neighbours, and rs are the rooms among them
 pub record Sofar (b : Grid) (p : ℕ) (seen : List Bool) (rs : List (List ℕ)) : Type 0 where
-  pub each : All (Room b) rs
-  pub small : All (λ r. length r ≤ 16) rs
+  pub each : Every (Room b) rs
+  pub small : Every (λ r. length r ≤ 16) rs
   pub rising : Rise first rs
-  pub before : All (λ r. first r < p) rs
+  pub before : Every (λ r. first r < p) rs
   pub closed : (q r : ℕ) → marked seen q ≡ true → Next b q r → free b r ≡ true → marked seen r ≡ true
   pub below : (q : ℕ) → q < p → free b q ≡ true → marked seen q ≡ true
   pub covered : (q r : ℕ) → marked seen q ≡ true → Next b q r → free b r ≡ true → (m : List ℕ) × Has rs m × Has m q

@@ -1,6 +1,6 @@
 -- A walk goes on: a visit to a square's neighbours, way after way.
 use Rattle.std.proofs.Common.{◌≡◌, ℕ, zero, suc, ◌+◌, ◌<◌, ◌≤◌, Bool, true, false, List, [], ◌∷◌, ◌++◌, length, get_or, take, set, Some, None, sym, refl, ap, ◌∙◌, subst, inl, inr, ⊎_elim, arith}
-use Rattle.std.specs.List.{ContainsAt as Has, AllByRecursion as All}
+use Rattle.std.specs.List.{ContainsAt as Has, AllByRecursion as Every}
 use Rattle.std.proofs.lemmas.List.{get_or-set_same, get_or-set_other, get_or_append_left, length_push, take_more, take_more_set}
 use Rattle.std.proofs.ByRecursion.{all-has, All-push, All-weaker, has_append_left, has_push, has_get_or}
 use Rattle.std.proofs.lemmas.Bool.{both_ways, cases_Bool, cases_eq}
@@ -104,7 +104,7 @@ module _ (b : Grid) (wide : 0 < b.width) (from : ℕ) where
       same = x.same;
       kept = x.kept;
       settled =
-          subst (All (λ w. (q : ℕ) → Toward b w from q → free b q ≡ true → marked seen' q ≡ true)) (sym (take_more all_ways i d less))
+          subst (Every (λ w. (q : ℕ) → Toward b w from q → free b q ≡ true → marked seen' q ≡ true)) (sym (take_more all_ways i d less))
           (All-push (λ w. (q : ℕ) → Toward b w from q → free b q ≡ true → marked seen' q ≡ true) (take i all_ways) (get_or all_ways i d) x.settled known);
       grown = x.grown;
     }
@@ -135,7 +135,7 @@ module _ (b : Grid) (wide : 0 < b.width) (from : ℕ) where
       same = λ k h. get_or_append_left qs' (q ∷ []) 0 k (let l = x.longer in omega arith) ∙ x.same k h;
       kept = λ r e. mark_keeps seen' q r below (x.kept r e);
       settled =
-          subst (All (λ w. (r : ℕ) → Toward b w from r → free b r ≡ true → marked (set seen' q true) r ≡ true)) (sym (take_more all_ways i d less))
+          subst (Every (λ w. (r : ℕ) → Toward b w from r → free b r ≡ true → marked (set seen' q true) r ≡ true)) (sym (take_more all_ways i d less))
           (All-push (λ w. (r : ℕ) → Toward b w from r → free b r ≡ true → marked (set seen' q true) r ≡ true) (take i all_ways) (get_or all_ways i d)
           (All-weaker (λ w. (r : ℕ) → Toward b w from r → free b r ≡ true → marked seen' r ≡ true)
           (λ w. (r : ℕ) → Toward b w from r → free b r ≡ true → marked (set seen' q true) r ≡ true) (λ w known r t f. mark_keeps seen' q r below (known r t f))

@@ -1,6 +1,6 @@
 -- Lists: what they have, lists that rise, and how often a number stands in one.
 use Rattle.std.proofs.Common.{◌≡◌, ℕ, zero, suc, ◌+◌, ◌<◌, ◌≤◌, cond, eqb, ◌⊎◌, List, [], ◌∷◌, ◌++◌, length, get_or, sym, refl, ap, ◌∙◌, subst, inl, inr, ⊎_elim, arith}
-use Rattle.std.specs.List.{ContainsAt as Has, AllByRecursion as All}
+use Rattle.std.specs.List.{ContainsAt as Has, AllByRecursion as Every}
 use Rattle.std.specs.List.Sorted.{IsNonDecreasing}
 use Rattle.std.proofs.ByRecursion.{all-has, All-push, has_get_or, All-get_or}
 use Rattle.std.proofs.lemmas.List.Sums.{sum_by-cons, sum_by_push}
@@ -24,7 +24,7 @@ has_cases {X} x xs y h = go h.0 h.1 h.2
     go zero l e = inl (e x)
     go (suc k) l e = inr (k, omega arith, e)
 
-pub all_by_has : {X : Type 0} (P : X → Type 0) (xs : List X) → ((x : X) → Has xs x → P x) → All P xs
+pub all_by_has : {X : Type 0} (P : X → Type 0) (xs : List X) → ((x : X) → Has xs x → P x) → Every P xs
 all_by_has P [] each = tt
 all_by_has P (x ∷ xs) each = (each x (has_here x xs), all_by_has P xs (λ y h. each y (has_there x xs y h)))
 
@@ -43,7 +43,7 @@ rise_place f xs i j d up hi hj e =
     (⊎_elim (λ less. absurd (let k = rise_at f xs i j d up less hj in omega arith)) (λ less. absurd (let k = rise_at f xs j i d up less hi in omega arith)))
     (cases_order i j)
 
-pub rise_push : {X : Type 0} (f : X → ℕ) (xs : List X) (y : X) → Rise f xs → All (λ x. f x < f y) xs → Rise f (xs ++ y ∷ [])
+pub rise_push : {X : Type 0} (f : X → ℕ) (xs : List X) (y : X) → Rise f xs → Every (λ x. f x < f y) xs → Rise f (xs ++ y ∷ [])
 rise_push f [] y up below = (tt, tt)
 rise_push f (x ∷ xs) y up below = (All-push (λ z. f x < f z) xs y up.0 below.0, rise_push f xs y up.1 below.1)
 
@@ -115,7 +115,7 @@ apart_places (p ∷ ps) apart (suc i) zero hi hj e = absurd (apart_first p ps ap
 apart_places (p ∷ ps) apart (suc i) (suc j) hi hj e = ap suc (apart_places ps (apart_rest p ps apart) i j (omega arith) (omega arith) e)
 
 -- a list without repetition whose numbers another list has is no longer than that
-pub no_longer : (ps qs : List ℕ) → Apart ps → All (Has qs) ps → length ps ≤ length qs
+pub no_longer : (ps qs : List ℕ) → Apart ps → Every (Has qs) ps → length ps ≤ length qs
 no_longer ps qs apart each =
     pigeons (length ps) (length qs) (λ i j. get_or ps i 0 ≡ get_or qs j 0)
     (λ i less. let h = all-has (Has qs) ps (get_or ps i 0) each (has_get_or ps i 0 less) in (h.0, h.1, sym (h.2 0)))

@@ -1,6 +1,6 @@
 -- Walks over free neighbours, and rooms: two rooms that share a square are the same, and a board has one list of them.
 use Rattle.std.proofs.Common.{◌≡◌, ℕ, ◌<◌, ◌≤◌, true, ◌⊎◌, List, [], ◌∷◌, length, get_or, sym, refl, ap, ◌∙◌, subst, inl, inr, ⊎_elim, arith}
-use Rattle.std.specs.List.{ContainsAt as Has, AllByRecursion as All}
+use Rattle.std.specs.List.{ContainsAt as Has, AllByRecursion as Every}
 use Rattle.std.proofs.ByRecursion.{all-has, All-weaker, has_get_or}
 use Rattle.std.proofs.lemmas.Bool.{cases_order}
 use Rattle.board.specs.Grid.{Grid, free, Next}
@@ -58,11 +58,11 @@ alone_or_near (go r n f w) = inr (r, n, f)
 
 -- more than n squares are reached from p, and where p has a free neighbour it lies in a room of rs: that room has more than n squares
 pub many_room :
-    (n : ℕ) (b : Grid) (rs : List (List ℕ)) → 1 ≤ n → All (Room b) rs → (p : ℕ) →
+    (n : ℕ) (b : Grid) (rs : List (List ℕ)) → 1 ≤ n → Every (Room b) rs → (p : ℕ) →
     ((q : ℕ) → Next b p q → free b q ≡ true → (r : List ℕ) × Has rs r × Has r p) → Many n b p → (r : List ℕ) × Has rs r × Has r p × (n < length r)
 many_room n b rs some each p near x = step x.squares x.apart x.reached x.more
   where
-    inner : (q : ℕ) → Next b p q → free b q ≡ true → (qs : List ℕ) → Apart qs → All (Walk b p) qs → n < length qs → (r : List ℕ) × Has rs r × Has r p × (n < length r)
+    inner : (q : ℕ) → Next b p q → free b q ≡ true → (qs : List ℕ) → Apart qs → Every (Walk b p) qs → n < length qs → (r : List ℕ) × Has rs r × Has r p × (n < length r)
     inner q nq fq qs apart reached more =
         let r = near q nq fq in
         let room = all-has (Room b) rs r.0 each r.1 in
@@ -70,7 +70,7 @@ many_room n b rs some each p near x = step x.squares x.apart x.reached x.more
         (r.0, r.1, r.2, omega arith)
 
     -- of two squares one is another than p
-    step : (qs : List ℕ) → Apart qs → All (Walk b p) qs → n < length qs → (r : List ℕ) × Has rs r × Has r p × (n < length r)
+    step : (qs : List ℕ) → Apart qs → Every (Walk b p) qs → n < length qs → (r : List ℕ) × Has rs r × Has r p × (n < length r)
     step [] apart reached more = absurd (omega arith)
     step (t ∷ []) apart reached more = absurd (omega arith)
     step (t ∷ u ∷ qs) apart reached more =

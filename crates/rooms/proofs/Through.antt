@@ -1,6 +1,6 @@
 -- The board seen through some squares: what is free on it, what may be laid on it, and the board after that.
 use Rattle.std.proofs.Common.{◌≡◌, ℕ, zero, suc, ◌+◌, ◌≤◌, Bool, true, false, not, ◌&&◌, ◌||◌, eqb, List, [], ◌∷◌, length, get_or, set, sym, refl, ap, ◌∙◌, subst, ⊎_elim, arith}
-use Rattle.std.specs.List.{ContainsAt as Has, AllByRecursion as All}
+use Rattle.std.specs.List.{ContainsAt as Has, AllByRecursion as Every}
 use Rattle.std.proofs.lemmas.List.{length-set, get_or-set_same, get_or-set_other, get_or_past, set_past, ext_get_or}
 use Rattle.std.proofs.lemmas.Bool.{and_parts, and_from, or_cases, or_left, or_right, eqb-true, eq-eqb, ne_eqb, cases_eq, cases_lt, both_ways}
 use Rattle.board.specs.Grid.{Grid, Side, pick, free, free_count}
@@ -125,14 +125,14 @@ covered b s p = covers b.width (length b.cells) s p
 
 -- a move that may be made on the board and lies among the squares may be made on what is seen through them, and only such
 module _ (b : Grid) (qs : List ℕ) where
-  to_all_free : (ps : List ℕ) → each_free b ps ≡ true → All (Has qs) ps → each_free (through b qs) ps ≡ true
+  to_all_free : (ps : List ℕ) → each_free b ps ≡ true → Every (Has qs) ps → each_free (through b qs) ps ≡ true
   to_all_free [] e h = refl
   to_all_free (p ∷ ps) e h =
       let parts = and_parts (free b p) (each_free b ps) e in
       and_from (free (through b qs) p) (each_free (through b qs) ps)
       (free_through b qs p ∙ and_from (free b p) (among qs p) parts.0 (has_among qs p h.0)) (to_all_free ps parts.1 h.1)
 
-  of_all_free : (ps : List ℕ) → each_free (through b qs) ps ≡ true → (each_free b ps ≡ true) × All (Has qs) ps
+  of_all_free : (ps : List ℕ) → each_free (through b qs) ps ≡ true → (each_free b ps ≡ true) × Every (Has qs) ps
   of_all_free [] e = (refl, tt)
   of_all_free (p ∷ ps) e =
       let parts = and_parts (free (through b qs) p) (each_free (through b qs) ps) e in
@@ -140,14 +140,14 @@ module _ (b : Grid) (qs : List ℕ) where
       let rest = of_all_free ps parts.1 in
       (and_from (free b p) (each_free b ps) both.0 rest.0, (among_has qs p both.1, rest.1))
 
-  pub to_through : (s : Side) (p : ℕ) → may b s p ≡ true → All (Has qs) (covered b s p) → may (through b qs) s p ≡ true
+  pub to_through : (s : Side) (p : ℕ) → may b s p ≡ true → Every (Has qs) (covered b s p) → may (through b qs) s p ≡ true
   unfolding may
   to_through s p e h =
       let parts = and_parts (fits b.width (length b.cells) s p) (each_free b (covered b s p)) e in
       ap (λ n. fits b.width n s p && each_free (through b qs) (covers b.width n s p)) (length_seen 0 qs b.cells)
       ∙ and_from (fits b.width (length b.cells) s p) (each_free (through b qs) (covered b s p)) parts.0 (to_all_free (covered b s p) parts.1 h)
 
-  pub of_through : (s : Side) (p : ℕ) → may (through b qs) s p ≡ true → (may b s p ≡ true) × All (Has qs) (covered b s p)
+  pub of_through : (s : Side) (p : ℕ) → may (through b qs) s p ≡ true → (may b s p ≡ true) × Every (Has qs) (covered b s p)
   unfolding may
   of_through s p e =
       let same = ap (λ n. fits b.width n s p && each_free (through b qs) (covers b.width n s p)) (length_seen 0 qs b.cells) in

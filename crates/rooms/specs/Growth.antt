@@ -1,6 +1,6 @@
 -- How a walk goes on: the squares found so far, and the marks on the squares that were seen.
 use Rattle.std.specs.Prelude.{◌≡◌, ℕ, ◌+◌, ◌<◌, ◌≤◌, Bool, true, false, ◌⊎◌, List, [], ◌∷◌, length, take, Some, None, Option, slice_index, slice_index_or}
-use Rattle.std.specs.List.{ContainsAt as Has, AllByRecursion as All}
+use Rattle.std.specs.List.{ContainsAt as Has, AllByRecursion as Every}
 use Rattle.board.specs.Grid.{Grid, free, Next, free_count}
 use Rattle.board.specs.Ways.{Toward}
 use Rattle.board.specs.declared.ways.Way.{Way}
@@ -16,10 +16,10 @@ marked seen q = slice_index_or seen q false
 pub record Grown (b : Grid) (p : ℕ) (old seen : List Bool) (qs : List ℕ) : Type 0 where
   pub start : Has qs p
   pub apart : Apart qs
-  pub open_squares : All (λ q. free b q ≡ true) qs
-  pub reached : All (Walk b p) qs
-  pub fresh : All (λ q. marked old q ≡ false) qs
-  pub shown : All (λ q. marked seen q ≡ true) qs
+  pub open_squares : Every (λ q. free b q ≡ true) qs
+  pub reached : Every (Walk b p) qs
+  pub fresh : Every (λ q. marked old q ≡ false) qs
+  pub shown : Every (λ q. marked seen q ≡ true) qs
   pub marks : (q : ℕ) → marked seen q ≡ true → (marked old q ≡ true) ⊎ Has qs q
   pub kept : (q : ℕ) → marked old q ≡ true → marked seen q ≡ true
   pub counted : free_count seen ≡ free_count old + length qs
@@ -29,7 +29,7 @@ pub record Visited (b : Grid) (from : ℕ) (ways : List Way) (seen seen' : List 
   pub longer : length qs ≤ length qs'
   pub same : (k : ℕ) → k < length qs → slice_index qs' k ≡ slice_index qs k
   pub kept : (q : ℕ) → marked seen q ≡ true → marked seen' q ≡ true
-  pub settled : All (λ w. (q : ℕ) → Toward b w from q → free b q ≡ true → marked seen' q ≡ true) ways
+  pub settled : Every (λ w. (q : ℕ) → Toward b w from q → free b q ≡ true → marked seen' q ≡ true) ways
   pub grown : (p : ℕ) (old : List Bool) → Grown b p old seen qs → Has qs from → Grown b p old seen' qs'
 
 -- the ways in which a visit looks

@@ -1,6 +1,6 @@
 -- The rooms of a board, in the words of the rules, and rooms that are too large.
 use Rattle.std.specs.Prelude.{◌≡◌, ℕ, ◌<◌, ◌≤◌, true, ◌↔◌, List, length}
-use Rattle.std.specs.List.{ContainsAt as Has, AllByRecursion as All}
+use Rattle.std.specs.List.{ContainsAt as Has, AllByRecursion as Every}
 use Rattle.board.specs.Grid.{Grid, free, Next}
 use Rattle.rooms.specs.Walks.{Walk, Rise, Apart, first}
 
@@ -14,7 +14,7 @@ pub record Room (b : Grid) (qs : List ℕ) : Type 0 where
 
 -- the rooms in the order of their first squares, and all of them: a free square with a free neighbour lies in one
 pub record Rooms (b : Grid) (rs : List (List ℕ)) : Type 0 where
-  pub each : All (Room b) rs
+  pub each : Every (Room b) rs
   pub whole : (p q : ℕ) → free b p ≡ true → free b q ≡ true → Next b p q → (r : List ℕ) × Has rs r × Has r p
   pub rising : Rise first rs
 
@@ -27,7 +27,7 @@ pub record Many (n : ℕ) (b : Grid) (p : ℕ) : Type 0 where
   pub squares : List ℕ
   pub more : n < length squares
   pub apart : Apart squares
-  pub reached : All (Walk b p) squares
+  pub reached : Every (Walk b p) squares
 
 -- p is the first of the squares that are reached from it, and those are more than n
 pub record Larger (n : ℕ) (b : Grid) (p : ℕ) : Type 0 where

@@ -1,6 +1,6 @@
 -- What the program's values stand for, and what is answered of a board's rooms.
 use Rattle.std.specs.Prelude.{◌≡◌, ℕ, ◌<◌, ◌≤◌, Bool, ◌⊎◌, ◌↔◌, List, [], map, length, take, Some, None, Ok, Err, Option, Result, slice_index_or}
-use Rattle.std.specs.List.{AllByRecursion as All}
+use Rattle.std.specs.List.{AllByRecursion as Every}
 use Rattle.games.specs.Play.{First}
 use Rattle.board.specs.Grid.{Grid, Side}
 use Rattle.board.specs.Rules.{Wins}
@@ -29,7 +29,7 @@ Walked b p old seen (Some r) = Ended b p old seen (squares_of r)
 -- the rooms of a board, none of more than 16 squares; and the board and those rooms beside each other are won by the same side
 pub record SmallRooms (b : Grid) (rs : List (List ℕ)) : Type 0 where
   pub rooms : Rooms b rs
-  pub small : All (λ r. length r ≤ 16) rs
+  pub small : Every (λ r. length r ≤ 16) rs
   pub law : (s : Side) → Wins s b ↔ First s (games_of b rs)
 
 -- a room of more than 16 squares begins at p, and none before

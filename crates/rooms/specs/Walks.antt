@@ -1,6 +1,6 @@
 -- Squares that are reached from one another, and lists of squares.
 use Rattle.std.specs.Prelude.{◌≡◌, ℕ, ◌<◌, ◌≤◌, true, List, [], ◌∷◌, count_by, nat_eq, slice_index}
-use Rattle.std.specs.List.{AllByRecursion as All}
+use Rattle.std.specs.List.{AllByRecursion as Every}
 use Rattle.board.specs.Grid.{Grid, free, Next}
 
 -- from p to q over free neighbours
@@ -11,7 +11,7 @@ pub data Walk (b : Grid) : ℕ → ℕ → Type 0 where
 -- f rises from each thing of a list to all that follow
 abbrev pub Rise : {X : Type 0} → (X → ℕ) → List X → Type 0
 Rise f [] = Unit {0}
-Rise f (x ∷ xs) = All (λ y. f x < f y) xs × Rise f xs
+Rise f (x ∷ xs) = Every (λ y. f x < f y) xs × Rise f xs
 
 -- how often q stands in a list
 abbrev pub times : ℕ → List ℕ → ℕ

@@ -1,6 +1,6 @@
 -- The sums of pairs, step by step.
 use Rattle.std.proofs.Common.{◌≡◌, ℕ, ◌+◌, ◌<◌, ◌⊎◌, List, length, get_or, take, Ok, Err, sym, refl, ap, ◌∙◌, subst, inl, inr, ⊎_elim, arith}
-use Rattle.std.specs.List.{ContainsAt as Has, AllByRecursion as All}
+use Rattle.std.specs.List.{ContainsAt as Has, AllByRecursion as Every}
 use Rattle.std.proofs.ByRecursion.{All-get_or, all-has}
 use Rattle.games.specs.Game.{Game}
 use Rattle.games.specs.Count.{Between}
@@ -74,7 +74,7 @@ sums_none W none fs os n t = record { grows = grows_none (OfPairs W) fs os n t; 
 
 -- a row walked through
 module _ (fs : List Form) (os : List ℕ) (n : ℕ) (t : Table fs os n) (gs : List Form) (qs : List ℕ) (u i : ℕ) where
-  module _ (x : ℕ) (low : x < n) (row : List ℕ) (known : All (λ y. y < n) row) (h : i < length row) (before : SumsAll (BesideRow fs os n x (take i row)) fs os n gs qs u) where
+  module _ (x : ℕ) (low : x < n) (row : List ℕ) (known : Every (λ y. y < n) row) (h : i < length row) (before : SumsAll (BesideRow fs os n x (take i row)) fs os n gs qs u) where
     same : (k : ℕ) → k < n → meaning (take u gs) qs k ≡ meaning (take n fs) os k
     same = grows_meaning (OfPairs (BesideRow fs os n x (take i row))) fs os n gs qs u t before.grows
 
@@ -114,7 +114,7 @@ module _ (fs : List Form) (os : List ℕ) (n : ℕ) (t : Table fs os n) (gs : Li
 
 -- one row walked through beside all of another
 module _ (fs : List Form) (os : List ℕ) (n : ℕ) (t : Table fs os n) (gs : List Form) (qs : List ℕ) (u i : ℕ)
-    (row ys : List ℕ) (known : All (λ x. x < n) row) (known-too : All (λ y. y < n) ys) (h : i < length row)
+    (row ys : List ℕ) (known : Every (λ x. x < n) row) (known-too : Every (λ y. y < n) ys) (h : i < length row)
     (before : SumsAll (BesideRows fs os n (take i row) ys) fs os n gs qs u) where
   same_row : (k : ℕ) → k < n → meaning (take u gs) qs k ≡ meaning (take n fs) os k
   same_row = grows_meaning (OfPairs (BesideRows fs os n (take i row) ys)) fs os n gs qs u t before.grows

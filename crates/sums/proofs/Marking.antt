@@ -1,6 +1,6 @@
 -- Marking numbers, and all that is reached from a form.
 use Rattle.std.proofs.Common.{◌≡◌, ℕ, zero, suc, ◌+◌, ◌-◌, ◌<◌, ◌≤◌, Bool, true, false, ◌⊎◌, List, [], ◌∷◌, ◌++◌, length, get_or, take, set, replicate, sym, refl, ◌∙◌, subst, inl, inr, ⊎_elim, arith}
-use Rattle.std.specs.List.{ContainsAt as Has, AllByRecursion as All}
+use Rattle.std.specs.List.{ContainsAt as Has, AllByRecursion as Every}
 use Rattle.std.proofs.lemmas.List.{get_or-set_same, get_or-set_other, get_or_past, take_more, take_all, length-set}
 use Rattle.std.proofs.ByRecursion.{has_push, has_push_cases, has_append_left, all-has, All-weaker}
 use Rattle.std.proofs.lemmas.Bool.{cases_lt, cases_eq, both_ways}
@@ -71,7 +71,7 @@ listing_skip marks k row e l = record {
 
 pub listing_more : (marks : List Bool) (k : ℕ) (row : List ℕ) → get_or marks k false ≡ true → Listing marks k row → Listing marks (k + 1) (row ++ k ∷ [])
 listing_more marks k row e l = record {
-  rising = rising_append row (k ∷ []) l.rising (tt, tt) (all_from_has (λ x. All (λ y. x < y) (k ∷ [])) row (λ w h. ((l.right w h).0, tt)));
+  rising = rising_append row (k ∷ []) l.rising (tt, tt) (all_from_has (λ x. Every (λ y. x < y) (k ∷ [])) row (λ w h. ((l.right w h).0, tt)));
   right = λ w h.
       ⊎_elim (λ old. let r = l.right w old in (let x = r.0 in omega arith, r.1)) (λ same. (omega arith, subst (Marked marks) same e)) (has_push_cases row k w h);
   whole = λ w h m.
@@ -161,11 +161,11 @@ module _ (fs : List Form) (os : List ℕ) (t : ℕ) where
           (let x = r.0 in let y = less s w h in omega arith, reached_trans r.1 (onward s (all-has (λ x. In (meaning fs os x) (options s (meaning fs os (k - 1)))) (row_of fs os s (k - 1)) w (in_row fs os sound s (k - 1) low) h) itself))
 
   -- the options of the next form have marks of their own
-  pub options_low : Sound fs os → t < length fs → (k : ℕ) (marks : List Bool) → 0 < k → Marking fs os t k marks → (s : Side) (row : List ℕ) (n : ℕ) → row ≡ row_of fs os s (k - 1) → n ≡ length marks → All (λ x. x < n) row
+  pub options_low : Sound fs os → t < length fs → (k : ℕ) (marks : List Bool) → 0 < k → Marking fs os t k marks → (s : Side) (row : List ℕ) (n : ℕ) → row ≡ row_of fs os s (k - 1) → n ≡ length marks → Every (λ x. x < n) row
   options_low sound known k marks pos m s row n e same =
       let low = m.low in
       let long = m.long in
-      subst (All (λ x. x < n)) (sym e) (All-weaker (λ x. x < k - 1) (λ x. x < n) (λ x h. omega arith) (row_of fs os s (k - 1)) (sound.below s (k - 1) (omega arith)))
+      subst (Every (λ x. x < n)) (sym e) (All-weaker (λ x. x < k - 1) (λ x. x < n) (λ x h. omega arith) (row_of fs os s (k - 1)) (sound.below s (k - 1) (omega arith)))
 
   -- all that is reached from a marked form is marked
   all_marked : Sound fs os → t < length fs → (marks : List Bool) → Marking fs os t 0 marks → {g h : Game} → Reached g h → (w : ℕ) → Marked marks w → meaning fs os w ≡ g → (x : ℕ) × Marked marks x × (meaning fs os x ≡ h)

@@ -1,6 +1,6 @@
 -- What one room more brings.
 use Rattle.std.proofs.Common.{◌≡◌, ℕ, ◌<◌, ◌≤◌, true, false, List, take, Ok, Err, sym, refl, subst, arith}
-use Rattle.std.specs.List.{AllByRecursion as All}
+use Rattle.std.specs.List.{AllByRecursion as Every}
 use Rattle.games.specs.Game.{Side, Game, game, none, more, options, In, here, empty, Reached, itself, onward}
 use Rattle.games.specs.Order.{Equal}
 use Rattle.games.specs.Sum.{SumTurns}
@@ -71,11 +71,11 @@ pub form_canonical : (fs : List Form) (os : List ℕ) (n : ℕ) → Table fs os 
 form_canonical fs os n t k h = t.sound.canonical k (let e = use_length fs os n t in omega arith)
 
 -- the forms of a list are in the table
-pub reach_known : (gs : List Form) (ps : List ℕ) (u t : ℕ) (xs ys : List ℕ) → ys ≡ xs → Table gs ps u → Reaches (take u gs) ps t xs → All (λ x. x < u) ys
-reach_known gs ps u t xs ys e table reach = subst (All (λ x. x < u)) (sym e) (all_from_has (λ x. x < u) xs (λ w h. let low = (reach.right w h).0 in let long = use_length gs ps u table in omega arith))
+pub reach_known : (gs : List Form) (ps : List ℕ) (u t : ℕ) (xs ys : List ℕ) → ys ≡ xs → Table gs ps u → Reaches (take u gs) ps t xs → Every (λ x. x < u) ys
+reach_known gs ps u t xs ys e table reach = subst (Every (λ x. x < u)) (sym e) (all_from_has (λ x. x < u) xs (λ w h. let low = (reach.right w h).0 in let long = use_length gs ps u table in omega arith))
 
-pub forms_known : (b : Grid) (r : List ℕ) (fs : List Form) (os : List ℕ) (n : ℕ) (gs : List Form) (ps : List ℕ) (own : ℕ) (all ys : List ℕ) (u : ℕ) → ys ≡ all → FormedRoom b r fs os n gs ps own all u → All (λ y. y < u) ys
-forms_known b r fs os n gs ps own all ys u e formed = subst (All (λ y. y < u)) (sym e) (all_from_has (λ y. y < u) all (λ w h. (formed.right w h).0))
+pub forms_known : (b : Grid) (r : List ℕ) (fs : List Form) (os : List ℕ) (n : ℕ) (gs : List Form) (ps : List ℕ) (own : ℕ) (all ys : List ℕ) (u : ℕ) → ys ≡ all → FormedRoom b r fs os n gs ps own all u → Every (λ y. y < u) ys
+forms_known b r fs os n gs ps own all ys u e formed = subst (Every (λ y. y < u)) (sym e) (all_from_has (λ y. y < u) all (λ w h. (formed.right w h).0))
 
 -- no room has been joined yet where its forms are not found
 pub unformed : (t : Game) (b : Grid) (r : List ℕ) (fs : List Form) (os : List ℕ) (n : ℕ) (gs : List Form) (ps : List ℕ) (e : Refusal) → RoomAnswer b r fs os n gs ps (Err e) → Stopped (Between t (room_game b r)) fs os n gs ps e

@@ -1,6 +1,6 @@
 // The sums of each form of one row and each of another.
 ghost use Rattle.std.specs.Prelude.{◌<◌};
-ghost use Rattle.std.specs.List.{AllByRecursion as All};
+ghost use Rattle.std.specs.List.{AllByRecursion as Every};
 ghost use Rattle.forms.specs.Links.{Table};
 ghost use Rattle.sums.specs.Pairing.{BesideRow, BesideRows, SumsAnswer};
 ghost use Rattle.sums.specs.Sums.{HoldsRight};
@@ -22,8 +22,8 @@ pub fn all_sums(
 ) -> Result<u16, Refusal>
     requires table { Table forms.old options.old used }
     requires pairs { HoldsRight forms.old options.old used pairs.old }
-    requires first { All (λ x. x < used) left.now }
-    requires second { All (λ y. y < used) right.now }
+    requires first { Every (λ x. x < used) left.now }
+    requires second { Every (λ y. y < used) right.now }
     ensures { SumsAnswer (BesideRows forms.old options.old used left.now right.now) forms.old options.old used forms.new options.new pairs.new result }
 {
     let mut grown = used;
@@ -49,7 +49,7 @@ fn sums_with(
     requires table { Table forms.old options.old used }
     requires pairs { HoldsRight forms.old options.old used pairs.old }
     requires first { x < used }
-    requires second { All (λ y. y < used) row.now }
+    requires second { Every (λ y. y < used) row.now }
     ensures { SumsAnswer (BesideRow forms.old options.old used x row.now) forms.old options.old used forms.new options.new pairs.new result }
 {
     let mut grown = used;

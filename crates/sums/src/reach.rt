@@ -1,6 +1,6 @@
 // The forms that are reached from a form. Options are below the form that has them, so one pass downwards finds all.
 ghost use Rattle.std.specs.Prelude.{◌<◌, ◌≤◌, length, IfOk};
-ghost use Rattle.std.specs.List.{AllByRecursion as All};
+ghost use Rattle.std.specs.List.{AllByRecursion as Every};
 ghost use Rattle.forms.specs.Soundness.{Sound};
 ghost use Rattle.sums.specs.Reaching.{MarksRow, ListsMarked, Reaches};
 
@@ -36,7 +36,7 @@ pub fn reached(
 
 // Marks the numbers of a row.
 fn mark(marks: &mut [bool], row: &[u16])
-    requires { All (λ x. x < length marks.old) row.now }
+    requires { Every (λ x. x < length marks.old) row.now }
     ensures { MarksRow marks.old row.now marks.new }
 {
     for x in row {

@@ -1,5 +1,5 @@
 use Rattle.std.proofs.Common.{◌≡◌, ◌<◌, ◌≤◌, length, get_or, take, vec_items, subst, arith}
-use Rattle.std.specs.List.{AllByRecursion as All}
+use Rattle.std.specs.List.{AllByRecursion as Every}
 use Rattle.canonical.proofs.Inserting.{already, put_in}
 use Rattle.canonical.proofs.rising.insert.Goals as goal
 use Rattle.canonical.proofs.rising.insert.Goals.{else-at-held-via-then-at-held+else-held-at, else-at-held-via-else-at-held}
@@ -18,6 +18,6 @@ returns c =
       | else-at-held-via-then-at-held+else-held-at w ↦ λ h e. w.if-held-at.false e
       | else-at-held-via-else-at-held w ↦ λ h e. omega (arith, w.if-at-held.false)
     ] in
-    put_in row x at c.requires.rising (subst (λ l. All (λ y. y < x) (take at l)) same c.count_below-at.ensures.before)
+    put_in row x at c.requires.rising (subst (λ l. Every (λ y. y < x) (take at l)) same c.count_below-at.ensures.before)
     (subst (λ l. at < length l → x ≤ get_or l at 0) same c.count_below-at.ensures.after) (subst (λ l. at < length l → get_or l at 0 ≡ x → ⊥) same other)
     (vec_items c.insert.new.self) c.in_ok-insert.ensures.items

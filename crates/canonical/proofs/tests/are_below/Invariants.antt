@@ -1,6 +1,6 @@
 use Rattle.std.proofs.Common.{◌<◌, take}
-use Rattle.std.specs.List.{AllByRecursion as All}
+use Rattle.std.specs.List.{AllByRecursion as Every}
 use Rattle.canonical.proofs.tests.are_below.Given as goal
 
 abbrev pub invariant-loop-x : goal.invariant-loop-x
-invariant-loop-x l = All (λ x. x < l.bound) (take l.x-index l.row)
+invariant-loop-x l = Every (λ x. x < l.bound) (take l.x-index l.row)

@@ -1,5 +1,5 @@
 use Rattle.std.proofs.Common.{◌+◌, take}
-use Rattle.std.specs.List.{AllByRecursion as All}
+use Rattle.std.specs.List.{AllByRecursion as Every}
 use Rattle.games.specs.Order.{NotLe}
 use Rattle.forms.specs.Meaning.{meaning}
 use Rattle.forms.proofs.order.+at_most_not_at_most.Given as goal
@@ -11,13 +11,13 @@ abbrev pub decreases-not_at_most : goal.decreases-not_at_most
 decreases-not_at_most l = l.g + l.h
 
 abbrev pub invariant-at_most-loop-x : goal.invariant-at_most-loop-x
-invariant-at_most-loop-x l = All (λ x. NotLe (meaning l.forms l.options l.h) (meaning l.forms l.options x)) (take l.x-index l.uprights)
+invariant-at_most-loop-x l = Every (λ x. NotLe (meaning l.forms l.options l.h) (meaning l.forms l.options x)) (take l.x-index l.uprights)
 
 abbrev pub invariant-at_most-loop-y : goal.invariant-at_most-loop-y
-invariant-at_most-loop-y l = All (λ y. NotLe (meaning l.forms l.options y) (meaning l.forms l.options l.g)) (take l.y-index l.flats)
+invariant-at_most-loop-y l = Every (λ y. NotLe (meaning l.forms l.options y) (meaning l.forms l.options l.g)) (take l.y-index l.flats)
 
 abbrev pub invariant-not_at_most-loop-x : goal.invariant-not_at_most-loop-x
-invariant-not_at_most-loop-x l = All (λ x. NotLe (meaning l.forms l.options l.h) (meaning l.forms l.options x)) (take l.x-index l.own)
+invariant-not_at_most-loop-x l = Every (λ x. NotLe (meaning l.forms l.options l.h) (meaning l.forms l.options x)) (take l.x-index l.own)
 
 abbrev pub invariant-not_at_most-loop-y : goal.invariant-not_at_most-loop-y
-invariant-not_at_most-loop-y l = All (λ y. NotLe (meaning l.forms l.options y) (meaning l.forms l.options l.g)) (take l.y-index l.replies)
+invariant-not_at_most-loop-y l = Every (λ y. NotLe (meaning l.forms l.options y) (meaning l.forms l.options l.g)) (take l.y-index l.replies)
