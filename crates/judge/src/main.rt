@@ -3,6 +3,7 @@
 
 use input::given_file;
 use std::io;
+use std::process::ExitCode;
 use verdict::judge::{Judgement, judge_file};
 use verdict::verdict::{RoomCount, RoomPlace};
 
@@ -21,10 +22,13 @@ fn tell(rt: &HostRuntime, judgement: &Judgement) -> io::Result<()> {
     println!(rt; "{said}")
 }
 
-fn main(rt: HostRuntime) -> io::Result<()> {
-    let bytes = given_file(&rt, "judge")?;
+fn main(rt: HostRuntime) -> io::Result<ExitCode> {
+    let Ok(bytes) = given_file(&rt, "judge") else {
+        return Ok(ExitCode::FAILURE);
+    };
     match judge_file(bytes.as_slice()) {
-        Ok(judgement) => tell(&rt, &judgement),
-        Err(refusal) => println!(rt; "{refusal}"),
+        Ok(judgement) => tell(&rt, &judgement)?,
+        Err(refusal) => println!(rt; "{refusal}")?,
     }
+    Ok(ExitCode::SUCCESS)
 }

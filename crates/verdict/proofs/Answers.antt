@@ -9,7 +9,7 @@ use Rattle.board.specs.declared.refusal.Refusal.{Refusal}
 use Rattle.board.specs.declared.refusal.Refusal.TheVariants.{Count}
 use Rattle.board.specs.declared.side.Side.{Side as Player}
 use Rattle.board.specs.declared.side.Side.TheVariants.{Upright, Flat}
-use Rattle.rooms.specs.Values.{rooms_of, told, Judged as Rooms-judged, OneJudged}
+use Rattle.rooms.specs.Values.{rooms_of, told, Judged as RoomsJudged, OneJudged}
 use Rattle.rooms.specs.declared.list.Rooms.{Rooms}
 use Rattle.rooms.proofs.Answering.{one_judged}
 use Rattle.verdict.specs.declared.judge.Judgement.{Judgement}
@@ -19,15 +19,15 @@ use Rattle.verdict.specs.declared.verdict.Verdict.TheVariants.{WinsAt, Lost}
 use Rattle.verdict.specs.Judging.{answer_of, Right, Judged, judged, turned_away, heard, AfterRead, JudgedFile, OneJudgement, OneFileJudgement}
 
 -- the parts of an answer
-pub is_judged : (s : Side) (b : Grid) (x : Judgement) → Rooms-judged b (Ok x.rooms) → Right s b x.said → Judged s b (Ok x)
+pub is_judged : (s : Side) (b : Grid) (x : Judgement) → RoomsJudged b (Ok x.rooms) → Right s b x.said → Judged s b (Ok x)
 unfolding Judged
 is_judged s b x rooms right = (rooms, right)
 
-pub rooms_refused : (s : Side) (b : Grid) (e : Refusal) → Rooms-judged b (Err e) → Judged s b (Err e)
+pub rooms_refused : (s : Side) (b : Grid) (e : Refusal) → RoomsJudged b (Err e) → Judged s b (Err e)
 unfolding Judged
 rooms_refused s b e h = inl h
 
-pub count_refused : (s : Side) (b : Grid) (rs : Rooms) → Rooms-judged b (Ok rs) → 20 < free_count b.cells → Judged s b (Err Count)
+pub count_refused : (s : Side) (b : Grid) (rs : Rooms) → RoomsJudged b (Ok rs) → 20 < free_count b.cells → Judged s b (Err Count)
 unfolding Judged
 count_refused s b rs h many = inr (rs, h, many, refl)
 
@@ -59,7 +59,7 @@ same_said s b v w x y =
     λ i. record { side = side i; verdict = verdict i }
 
 -- rooms that are fine are not refused
-fine : (b : Grid) (rs : Rooms) (e : Refusal) → Rooms-judged b (Ok rs) → Rooms-judged b (Err e) → ⊥
+fine : (b : Grid) (rs : Rooms) (e : Refusal) → RoomsJudged b (Ok rs) → RoomsJudged b (Err e) → ⊥
 unfolding OneJudged
 fine b rs e x y = let t = one_judged b (Ok rs) (Err e) x y in let z : ◌≡◌ {A = ℕ} 0 1 = cc in omega arith
 

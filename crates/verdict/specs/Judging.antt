@@ -6,7 +6,7 @@ use Rattle.board.specs.Values.{side_of}
 use Rattle.board.specs.Rules.{Answer, lay, lost, Says}
 use Rattle.board.specs.declared.refusal.Refusal.{Refusal}
 use Rattle.board.specs.declared.refusal.Refusal.TheVariants.{Count}
-use Rattle.rooms.specs.Values.{rooms_of, Judged as Rooms-judged}
+use Rattle.rooms.specs.Values.{rooms_of, Judged as RoomsJudged}
 use Rattle.rooms.specs.declared.list.Rooms.{Rooms}
 use Rattle.verdict.specs.declared.judge.Judgement.{Judgement}
 use Rattle.verdict.specs.declared.verdict.Said.{Said}
@@ -26,8 +26,8 @@ pub record Right (s : Side) (b : Grid) (x : Said) : Type 0 where
 
 -- the board's rooms and the verdict; or the refusal of its rooms; or, where they are fine, that of the count, exactly if there are more than 20 free squares
 unfoldable pub Judged : Side → Grid → Result Judgement Refusal → Type 0
-Judged s b (Ok x) = Rooms-judged b (Ok x.rooms) × Right s b x.said
-Judged s b (Err e) = Rooms-judged b (Err e) ⊎ ((rs : Rooms) × Rooms-judged b (Ok rs) × (20 < free_count b.cells) × (e ≡ Count))
+Judged s b (Ok x) = RoomsJudged b (Ok x.rooms) × Right s b x.said
+Judged s b (Err e) = RoomsJudged b (Err e) ⊎ ((rs : Rooms) × RoomsJudged b (Ok rs) × (20 < free_count b.cells) × (e ≡ Count))
 
 -- what an answer tells: the rooms by their squares, and what is said; or the refusal
 pub data Heard : Type 0 where
