@@ -10,3 +10,4 @@ pub mod Trees
 pub mod Small
 pub mod Plays
 pub mod Table
+pub mod Turns

@@ -8,3 +8,4 @@ pub mod Walking
 pub mod Finding
 pub mod Answering
 pub mod After
+pub mod Held

@@ -5,5 +5,6 @@ pub mod Steps
 pub mod Reaching
 pub mod Pairing
 pub mod Rows
+pub mod Kept
 pub mod Counting
 pub mod Likeness

@@ -1,7 +1,8 @@
 -- Lemmas.
-pub mod Answers
-pub mod Losing
-pub mod Rounds
-pub mod Smaller
-pub mod Whole
-pub mod Worthy
+pub mod Bounds
+pub mod Judges
+pub mod Liking
+pub mod Playing
+pub mod Rows
+pub mod Telling
+pub mod Weights

@@ -1,9 +1,10 @@
-// The verdict: who makes the last move, and where to lay.
+// The verdict: who makes the last move, where to lay, and which rooms are alike.
 #![tactic(auto)]
 
-pub mod choose;
 pub mod judge;
-pub mod lost;
-pub mod tries;
+pub mod lent;
+pub mod likes;
+pub mod limits;
+pub mod told;
 pub mod verdict;
-pub mod worth;
+pub mod weigh;

@@ -46,20 +46,24 @@ impl fmt::Display for RoomCount {
     }
 }
 
-// A room by its number and its first square.
+// A room by its number and its first square, and the first earlier room that is alike.
 #[derive(Clone, Copy)]
 pub struct RoomPlace {
     pub number: usize,
     pub first: u16,
+    pub like: Option<usize>,
 }
 
-// "room 1 at 3"
+// "room 1 at 3", "room 1 at 3 like 0"
 impl fmt::Display for RoomPlace {
-    ghost output = { λ x. Some (room_text x.number x.first) };
+    ghost output = { λ x. Some (room_text x.number x.first x.like) };
 
     fn fmt<W: fmt::Write>(&self, f: &mut fmt::Formatter<W>) -> fmt::Result {
         let number = self.number;
         let first = self.first;
-        write!(f, "room {number} at {first}")
+        match self.like {
+            Some(like) => write!(f, "room {number} at {first} like {like}"),
+            None => write!(f, "room {number} at {first}"),
+        }
     }
 }

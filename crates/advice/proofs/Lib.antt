@@ -1,0 +1,6 @@
+-- Lemmas.
+pub mod Losing
+pub mod Rounds
+pub mod Smaller
+pub mod Whole
+pub mod Worthy

@@ -1,0 +1,10 @@
+use Rattle.std.proofs.Common.{vec_items}
+use Rattle.board.specs.Values.{side_of, grid_of}
+use Rattle.sums.specs.Kept.{KeptRight}
+use Rattle.advice.specs.Trying.{Tried}
+use Rattle.advice.proofs.tries.try_places.Given as goal
+
+abbrev pub invariant-loop-place : goal.invariant-loop-place
+invariant-loop-place l =
+    Tried (side_of l.side) (grid_of l.board) l.place l.initial.forms l.forms l.options l.pairs l.first l.grown
+    × KeptRight (grid_of l.board) l.forms l.options l.grown (vec_items l.kept)
