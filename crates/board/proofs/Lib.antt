@@ -10,4 +10,3 @@ pub mod Trees
 pub mod Small
 pub mod Plays
 pub mod Table
-pub mod Turns

@@ -19,4 +19,4 @@ board_games = record {
 
 pub plays : Plays
 unfolding goes anywhere may laid
-plays = record { at_once = elim [ true ↦ refl | false ↦ refl ]; wanting = refl; without_answer = λ s b e. refl }
+plays = record { at_once = elim [ true ↦ refl | false ↦ refl ]; wanting = refl; without_answer = λ s b. refl }

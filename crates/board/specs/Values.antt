@@ -2,7 +2,6 @@
 use Rattle.std.specs.Prelude.{◌≡◌, ℕ, ◌*◌, true, false, List, length, take, Some, None, Option}
 use Rattle.board.specs.Grid.{Grid, Side}
 use Rattle.board.specs.Moves.{covers, fits, may, laid}
-use Rattle.board.specs.Rules.{Answer, lay, lost}
 use Rattle.board.specs.declared.side.Side.{Side as Player}
 use Rattle.board.specs.declared.side.Side.TheVariants.{Upright, Flat}
 use Rattle.board.specs.declared.board.Board.{Board}
@@ -29,8 +28,3 @@ Covered b s p (Some qs) = (fits b.width (length b.cells) s p ≡ true) × (qs �
 abbrev pub LaidAt : Grid → Side → ℕ → Option Board → Type 0
 LaidAt b s p None = may b s p ≡ false
 LaidAt b s p (Some next) = (may b s p ≡ true) × (grid_of next ≡ laid b s p)
-
--- an answer of the rules by its place: lost where there is none
-abbrev pub answer_of : Option ℕ → Answer
-answer_of (Some p) = lay p
-answer_of None = lost

@@ -36,13 +36,6 @@ pub enum Refusal {
     Count,
 }
 
-// Why there is no answer: the board or record is refused, or memory is wanting for what is not lent.
-#[derive(Clone, Copy)]
-pub enum Failure {
-    Refused(Refusal),
-    NoMemory,
-}
-
 impl Refusal {
     // Its number in the list.
     pub fn number(self) -> u8

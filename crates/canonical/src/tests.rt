@@ -140,8 +140,6 @@ fn small_games(rt: HostRuntime) -> Result<(), Fail> {
         flat: 0,
         head: 0,
         next: 0,
-        above: 0,
-        below: 0,
     };
     let mut forms = [blank; 16];
     let mut options = [0; 512];

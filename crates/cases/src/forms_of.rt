@@ -16,8 +16,6 @@ pub(crate) const BLANK: Form = Form {
     flat: 0,
     head: 0,
     next: 0,
-    above: 0,
-    below: 0,
 };
 
 // How many of these sets something is known of.

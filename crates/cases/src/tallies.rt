@@ -22,12 +22,10 @@ fn tell_count(rt: &HostRuntime, what: &str, bytes: &[u8]) -> io::Result<()> {
     let Some(used) = start(&mut forms, &options) else {
         return println!(rt; "{what}: no table");
     };
-    let mut kept = Vec::new(rt.alloc());
     let Ok(found) = row_of_rooms(
         rt.alloc(),
         &setup.board,
         &rooms,
-        &mut kept,
         &mut forms,
         &mut options,
         &mut pairs,

@@ -5,7 +5,6 @@ use Rattle.std.proofs.ByRecursion.{All-weaker}
 use Rattle.std.proofs.lemmas.Bool.{cases_lt}
 use Rattle.games.specs.Game.{Side, game}
 use Rattle.games.specs.Canonical.{Canonical}
-use Rattle.games.specs.Numbers.{Bounded}
 use Rattle.forms.specs.declared.rows.Form.{Form}
 use Rattle.forms.specs.Rows.{blank, many, row_of, row_for, Rising}
 use Rattle.forms.specs.Meaning.{listed, meant, meaning, given}
@@ -63,24 +62,8 @@ module _
       go (inr p) (inl q) = absurd (clash k j q (omega arith) (λ s. sym (same s)))
       go (inr p) (inr q) = omega arith
 
-  -- the bounds of older forms and of the new one
-  bounds_more :
-      ((k : ℕ) → k < length fs → ((get_or gs k blank).above ≡ (get_or fs k blank).above) × ((get_or gs k blank).below ≡ (get_or fs k blank).below)) →
-      Bounded (given fs os us ls) (get_or gs (length fs) blank).above (get_or gs (length fs) blank).below →
-      (k : ℕ) → k < length gs → Bounded (meaning gs ps k) (get_or gs k blank).above (get_or gs k blank).below
-  bounds_more same here =
-      each (λ k. Bounded (meaning gs ps k) (get_or gs k blank).above (get_or gs k blank).below)
-      (λ k h.
-      let e = same k h in
-      subst (λ g. Bounded g (get_or gs k blank).above (get_or gs k blank).below) (sym (kept_more.games k h))
-      (subst (λ a. Bounded (meaning fs os k) a (get_or gs k blank).below) (sym e.0) (subst (Bounded (meaning fs os k) (get_or fs k blank).above) (sym e.1) (sound.bounds k h))))
-      (subst (λ g. Bounded g (get_or gs (length fs) blank).above (get_or gs (length fs) blank).below) (sym meaning_new) here)
-
-  pub sound_more :
-      32 * length gs ≤ length ps → ((s : Side) (k : ℕ) → k < length gs → many s (get_or gs k blank) ≤ 16) →
-      ((k : ℕ) → k < length fs → ((get_or gs k blank).above ≡ (get_or fs k blank).above) × ((get_or gs k blank).below ≡ (get_or fs k blank).below)) →
-      Bounded (given fs os us ls) (get_or gs (length fs) blank).above (get_or gs (length fs) blank).below → Sound gs ps
-  sound_more room few same here =
+  pub sound_more : 32 * length gs ≤ length ps → ((s : Side) (k : ℕ) → k < length gs → many s (get_or gs k blank) ≤ 16) → Sound gs ps
+  sound_more room few =
       record {
         room = room;
         few = few;
@@ -91,5 +74,4 @@ module _
         rising = λ s. each (λ k. Rising (row_of gs ps s k)) (λ k h. subst Rising (sym (older s k h)) (sound.rising s k h)) (subst Rising (sym (new s)) (fresh.rising s));
         canonical = each (λ k. Canonical (meaning gs ps k)) (λ k h. subst Canonical (sym (kept_more.games k h)) (sound.canonical k h)) (subst Canonical (sym meaning_new) fresh.canonical);
         apart = apart_more;
-        bounds = bounds_more same here;
       }

@@ -3,10 +3,8 @@ use Rattle.std.proofs.Common.{◌≡◌, ℕ, suc, ◌+◌, ◌*◌, ◌<◌, �
 use Rattle.std.proofs.lemmas.List.{get_or-set_same, get_or-set_other, get_or-take, length-set, length-take-le}
 use Rattle.std.proofs.lemmas.Bool.{cases_eq}
 use Rattle.games.specs.Game.{Side}
-use Rattle.games.specs.Numbers.{Bounded}
 use Rattle.forms.specs.declared.rows.Form.{Form}
 use Rattle.forms.specs.Rows.{blank, many, place, row_of, row_for}
-use Rattle.forms.specs.Meaning.{given}
 use Rattle.forms.specs.Soundness.{Sound}
 use Rattle.forms.specs.Links.{bucket_of, head_of, next_at, Leads, here, on, Table}
 use Rattle.forms.specs.Growth.{IsRow, Fresh, Kept}
@@ -41,22 +39,21 @@ bucket_below size us ls h = mod-lt _ h
 
 -- the bucket's link set to the new form n, and the new form's own entry
 abbrev pub marked : List Form → ℕ → ℕ → List Form
-marked fs b n = set fs b (record { upright = (get_or fs b blank).upright; flat = (get_or fs b blank).flat; head = n + 1; next = (get_or fs b blank).next; above = (get_or fs b blank).above; below = (get_or fs b blank).below })
+marked fs b n = set fs b (record { upright = (get_or fs b blank).upright; flat = (get_or fs b blank).flat; head = n + 1; next = (get_or fs b blank).next })
 
-abbrev pub grown : List Form → ℕ → ℕ → List ℕ → List ℕ → ℕ → ℕ → List Form
-grown fs b n us ls above below = set (marked fs b n) n (record { upright = length us; flat = length ls; head = head_of (marked fs b n) n; next = head_of fs b; above = above; below = below })
+abbrev pub grown : List Form → ℕ → ℕ → List ℕ → List ℕ → List Form
+grown fs b n us ls = set (marked fs b n) n (record { upright = length us; flat = length ls; head = head_of (marked fs b n) n; next = head_of fs b })
 
 module _
     (fs : List Form) (os : List ℕ) (n : ℕ) (us ls : List ℕ) (t : Table fs os n) (room : n < length fs) (fresh : Fresh (take n fs) os us ls)
     (b : ℕ) (low : b < length fs) (is-bucket : b ≡ bucket_of (length fs) us ls)
     (ps : List ℕ) (same_length : length ps ≡ length os) (before : take (32 * n) ps ≡ take (32 * n) os)
-    (written : (s : Side) → take (length (row_for s us ls)) (drop (place s n) ps) ≡ row_for s us ls)
-    (above below : ℕ) (bounded : Bounded (given (take n fs) os us ls) above below) where
+    (written : (s : Side) → take (length (row_for s us ls)) (drop (place s n) ps) ≡ row_for s us ls) where
   abbrev mid : List Form
   mid = marked fs b n
 
   abbrev gs : List Form
-  gs = grown fs b n us ls above below
+  gs = grown fs b n us ls
 
   long_mid : length mid ≡ length fs
   long_mid = length-set fs b _
@@ -128,27 +125,10 @@ module _
   pub kept_after : Kept (take n fs) os (take (n + 1) gs) ps
   kept_after = kept_more (take n fs) os (take (n + 1) gs) ps us ls t.sound fresh (use_new ∙ ap (λ m. m + 1) (sym use_old)) older new_at
 
-  -- the bounds of the older forms and of the new one
-  bounds_older :
-      (k : ℕ) → k < length (take n fs) →
-      ((get_or (take (n + 1) gs) k blank).above ≡ (get_or (take n fs) k blank).above) × ((get_or (take (n + 1) gs) k blank).below ≡ (get_or (take n fs) k blank).below)
-  bounds_older k h =
-      let less : k < n = subst (λ m. k < m) use_old h in
-      let now = get_or-take (n + 1) gs k blank (omega arith) ∙ get_or-set_other mid n k _ blank (λ e. omega arith) in
-      let was = sym (get_or-take n fs k blank less) in (
-        ap (λ (f : Form). f.above) now ∙ set_keeps (λ f. f.above) fs b _ low refl k ∙ ap (λ (f : Form). f.above) was,
-        ap (λ (f : Form). f.below) now ∙ set_keeps (λ f. f.below) fs b _ low refl k ∙ ap (λ (f : Form). f.below) was,
-      )
-
-  bounds_new : Bounded (given (take n fs) os us ls) (get_or (take (n + 1) gs) (length (take n fs)) blank).above (get_or (take (n + 1) gs) (length (take n fs)) blank).below
-  bounds_new =
-      let is = ap (λ m. get_or (take (n + 1) gs) m blank) use_old ∙ get_or-take (n + 1) gs n blank (omega arith) ∙ get_or-set_same mid n _ blank room_mid in
-      subst (λ (f : Form). Bounded (given (take n fs) os us ls) f.above f.below) (sym is) bounded
-
   sound_after : Sound (take (n + 1) gs) ps
   sound_after =
       sound_more (take n fs) os (take (n + 1) gs) ps us ls t.sound fresh (use_new ∙ ap (λ m. m + 1) (sym use_old)) older new_at
-      (let l = use_new in let m = t.space in omega arith) few_all bounds_older bounds_new
+      (let l = use_new in let m = t.space in omega arith) few_all
 
   moved : (k a : ℕ) → Leads fs k a → a ≤ n → Leads gs k a
   moved k a = leads_same fs gs n (λ k h. next_other k (λ e. omega arith)) t.falls

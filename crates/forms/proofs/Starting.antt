@@ -6,13 +6,11 @@ use Rattle.std.proofs.lemmas.Bool.{cases_eq}
 use Rattle.games.specs.Game.{Side, other, game, options, In, empty}
 use Rattle.games.specs.Order.{Worse, NotWorse}
 use Rattle.games.specs.Canonical.{Canonical, canonical}
-use Rattle.games.specs.Numbers.{Bounded}
 use Rattle.forms.specs.declared.rows.Form.{Form}
-use Rattle.forms.specs.Rows.{blank, bare, many, place, row_of, Rising}
+use Rattle.forms.specs.Rows.{blank, many, place, row_of, Rising}
 use Rattle.forms.specs.Meaning.{listed, meaning}
 use Rattle.forms.specs.Soundness.{Sound}
 use Rattle.forms.specs.Links.{bucket_of, head_of, next_at, Leads, here, Table}
-use Rattle.forms.proofs.Bounding.{empty_bounded}
 use Rattle.forms.proofs.Linking.{set_keeps, marked}
 
 empty_canonical : Canonical empty
@@ -26,7 +24,7 @@ only : (P : ℕ → Type 0) → P 0 → (k : ℕ) → k < 1 → P k
 only P p k h = subst P (let e : 0 ≡ k = omega arith in e) p
 
 module _
-    (fs : List Form) (os : List ℕ) (cleared : (k : ℕ) → k < length fs → get_or fs k blank ≡ bare) (some : 0 < length fs) (few : length fs ≤ 16384) (space : 32 * length fs ≤ length os)
+    (fs : List Form) (os : List ℕ) (cleared : (k : ℕ) → get_or fs k blank ≡ blank) (some : 0 < length fs) (few : length fs ≤ 16384) (space : 32 * length fs ≤ length os)
     (b : ℕ) (low : b < length fs) (is-bucket : b ≡ bucket_of (length fs) [] []) where
   abbrev gs : List Form
   gs = marked fs b 0
@@ -45,8 +43,8 @@ module _
   no_options s = ap (many s) (get_or-take 1 gs 0 blank (omega arith)) ∙ go s
     where
       go : (s : Side) → many s (get_or gs 0 blank) ≡ 0
-      go true = set_keeps (λ f. f.upright) fs b _ low refl 0 ∙ ap (λ (f : Form). f.upright) (cleared 0 some)
-      go false = set_keeps (λ f. f.flat) fs b _ low refl 0 ∙ ap (λ (f : Form). f.flat) (cleared 0 some)
+      go true = set_keeps (λ f. f.upright) fs b _ low refl 0 ∙ ap (λ (f : Form). f.upright) (cleared 0)
+      go false = set_keeps (λ f. f.flat) fs b _ low refl 0 ∙ ap (λ (f : Form). f.flat) (cleared 0)
 
   no_row : (s : Side) → row_of (take 1 gs) os s 0 ≡ []
   unfolding row_of
@@ -55,16 +53,6 @@ module _
   first_is_empty : meaning (take 1 gs) os 0 ≡ empty
   unfolding meaning
   first_is_empty = λ i. game (listed (λ k. empty) (no_row true i)) (listed (λ k. empty) (no_row false i))
-
-  bounded : Bounded (meaning (take 1 gs) os 0) (get_or (take 1 gs) 0 blank).above (get_or (take 1 gs) 0 blank).below
-  bounded =
-      let in-gs = get_or-take 1 gs 0 blank (omega arith) in
-      let above : (get_or (take 1 gs) 0 blank).above ≡ 128 =
-      ap (λ (f : Form). f.above) in-gs ∙ set_keeps (λ f. f.above) fs b _ low refl 0 ∙ ap (λ (f : Form). f.above) (cleared 0 some) in
-      let below : (get_or (take 1 gs) 0 blank).below ≡ 129 =
-      ap (λ (f : Form). f.below) in-gs ∙ set_keeps (λ f. f.below) fs b _ low refl 0 ∙ ap (λ (f : Form). f.below) (cleared 0 some) in
-      subst (λ g. Bounded g (get_or (take 1 gs) 0 blank).above (get_or (take 1 gs) 0 blank).below) (sym first_is_empty)
-      (subst (λ a. Bounded empty a (get_or (take 1 gs) 0 blank).below) (sym above) (subst (Bounded empty 128) (sym below) empty_bounded))
 
   sound_start : Sound (take 1 gs) os
   sound_start =
@@ -75,7 +63,6 @@ module _
         rising = λ s. all_in_use (λ k. Rising (row_of (take 1 gs) os s k)) (subst Rising (sym (no_row s)) tt);
         canonical = all_in_use (λ k. Canonical (meaning (take 1 gs) os k)) (subst Canonical (sym first_is_empty) empty_canonical);
         apart = λ j k hj hk same. let l = in_use in omega arith;
-        bounds = all_in_use (λ k. Bounded (meaning (take 1 gs) os k) (get_or (take 1 gs) k blank).above (get_or (take 1 gs) k blank).below) bounded;
       }
 
   head_at : head_of gs b ≡ 1
@@ -93,9 +80,9 @@ module _
             λ c h.
             elim (cases_eq c b) [
               | inl same ↦ (let e : head_of gs c ≡ 1 = ap (head_of gs) same ∙ head_at in omega arith)
-              | inr other ↦ (let e : head_of gs c ≡ 0 = ap (λ (f : Form). f.head) (get_or-set_other fs b c _ blank other) ∙ ap (λ (f : Form). f.head) (cleared c (subst (λ m. c < m) long h)) in omega arith)
+              | inr other ↦ (let e : head_of gs c ≡ 0 = ap (λ (f : Form). f.head) (get_or-set_other fs b c _ blank other) ∙ ap (λ (f : Form). f.head) (cleared c) in omega arith)
             ];
-        falls = λ k h. let e : next_at gs k ≡ 0 = set_keeps (λ f. f.next) fs b _ low refl k ∙ ap (λ (f : Form). f.next) (cleared k (omega arith)) in omega arith;
+        falls = λ k h. let e : next_at gs k ≡ 0 = set_keeps (λ f. f.next) fs b _ low refl k ∙ ap (λ (f : Form). f.next) (cleared k) in omega arith;
         linked =
             only (λ k. Leads gs k (head_of gs (bucket_of (length gs) (row_of (take 1 gs) os true k) (row_of (take 1 gs) os false k))))
             (let same : bucket_of (length gs) (row_of (take 1 gs) os true 0) (row_of (take 1 gs) os false 0) ≡ b = (λ i. bucket_of (long i) (no_row true i) (no_row false i)) ∙ sym is-bucket in

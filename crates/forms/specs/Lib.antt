@@ -1,6 +1,5 @@
 -- The definitions that the contracts of this crate speak of.
 pub mod Rows
-pub mod Bounds
 pub mod Meaning
 pub mod Soundness
 pub mod Links

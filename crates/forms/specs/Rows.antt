@@ -6,11 +6,7 @@ use Rattle.forms.specs.declared.rows.Form.{Form}
 
 -- what stands at a number past the end
 abbrev pub blank : Form
-blank = record { upright = 0; flat = 0; head = 0; next = 0; above = 0; below = 0 }
-
--- the empty game, with no links
-abbrev pub bare : Form
-bare = record { upright = 0; flat = 0; head = 0; next = 0; above = 128; below = 129 }
+blank = record { upright = 0; flat = 0; head = 0; next = 0 }
 
 -- how many options a form has for a side
 abbrev pub many : Side → Form → ℕ

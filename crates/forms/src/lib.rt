@@ -1,7 +1,6 @@
-// Values of games as numbered forms in lent memory: their rows, their bounds, the test of order, look-up and growth.
+// Values of games as numbered forms in lent memory: their rows, the test of order, look-up and growth.
 #![tactic(auto)]
 
-pub mod bounds;
 pub mod order;
 pub mod rows;
 pub mod table;

@@ -1,12 +1,10 @@
-// The test of order: by the bounds of the forms where these decide, else by their options. The two functions call each other, and the sum of the two
-// numbers falls.
+// The test of order. The two functions call each other, and the sum of the two numbers falls.
 ghost use Rattle.std.specs.Prelude.{◌<◌, length, MatchBool};
 ghost use Rattle.games.specs.Order.{Le, NotLe};
 ghost use Rattle.forms.specs.Meaning.{meaning};
 ghost use Rattle.forms.specs.Soundness.{Sound};
 ghost use Rattle.forms.specs.Laws.{OneNumber, FirstEmpty};
 
-use crate::bounds::decided;
 use crate::rows::{Form, row};
 
 // Is form g at most form h: no upright option of g has h at most it, and no flat option of h is at most g.
@@ -17,9 +15,6 @@ pub fn at_most(forms: &[Form], options: &[u16], g: u16, h: u16) -> bool
     requires second { h < length forms.now }
     ensures { MatchBool result (Le (meaning forms.now options.now g) (meaning forms.now options.now h)) (NotLe (meaning forms.now options.now g) (meaning forms.now options.now h)) }
 {
-    if let Some(known) = decided(forms, g, h) {
-        return known;
-    }
     let uprights = row(forms, options, true, g);
     for x in uprights {
         if !not_at_most(forms, options, h, *x) {
@@ -43,9 +38,6 @@ pub fn not_at_most(forms: &[Form], options: &[u16], g: u16, h: u16) -> bool
     requires second { h < length forms.now }
     ensures { MatchBool result (NotLe (meaning forms.now options.now g) (meaning forms.now options.now h)) (Le (meaning forms.now options.now g) (meaning forms.now options.now h)) }
 {
-    if let Some(known) = decided(forms, g, h) {
-        return !known;
-    }
     let own = row(forms, options, true, g);
     for x in own {
         if at_most(forms, options, h, *x) {

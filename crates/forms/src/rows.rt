@@ -5,16 +5,13 @@ ghost use Rattle.forms.specs.Rows.{row_of};
 ghost use Rattle.forms.specs.Soundness.{Sound};
 
 // How many options a form has for each player, and its links: the last form of the bucket with this number, and the form before this one in its
-// own bucket, each as 0 or one more than a form's number. Then its bounds: the first test number that is at least it, and the first that is not at
-// most it.
+// own bucket, each as 0 or one more than a form's number.
 #[derive(Clone, Copy, Drop)]
 pub struct Form {
     pub upright: u8,
     pub flat: u8,
     pub head: u16,
     pub next: u16,
-    pub above: u16,
-    pub below: u16,
 }
 
 // The options of form k for a side.

@@ -1,11 +1,10 @@
 // The table in lent memory: begun, looked up in, and grown. Forms whose rows fall into one bucket are linked, each to the one before it.
 ghost use Rattle.std.specs.Prelude.{◌≡◌, ℕ, ◌+◌, ◌%◌, ◌<◌, ◌≤◌, true, false, length, take, drop, Decides, slice_index_or};
-ghost use Rattle.forms.specs.Rows.{blank, bare};
+ghost use Rattle.forms.specs.Rows.{blank};
 ghost use Rattle.forms.specs.Soundness.{Sound};
 ghost use Rattle.forms.specs.Links.{mixed, bucket_of, Table};
 ghost use Rattle.forms.specs.Growth.{IsRow, Found, Fresh, Kept, Started};
 
-use crate::bounds::bounds_of;
 use crate::rows::{Form, row};
 
 // The form in use that has these two rows, or None where no form has them.
@@ -72,7 +71,6 @@ pub fn add(forms: &mut [Form], options: &mut [u16], used: u16, upright: &[u16], 
     ensures rows { IsRow (take (used + 1) forms.new) options.new upright.now flat.now used }
 {
     let n = used as usize;
-    let bounds = bounds_of(&forms[..n], upright, flat);
     let place = &mut options[32 * n..32 * n + 32];
     write_row(place, upright, flat);
     let bucket = bucket(forms.len(), upright, flat);
@@ -84,8 +82,6 @@ pub fn add(forms: &mut [Form], options: &mut [u16], used: u16, upright: &[u16], 
         flat: flat.len() as u8,
         head,
         next,
-        above: bounds.above,
-        below: bounds.below,
     };
 }
 
@@ -114,9 +110,9 @@ pub fn start(forms: &mut [Form], options: &[u16]) -> Option<u16>
     Some(1)
 }
 
-// Makes every form the empty game, with no links.
+// Empties all forms and links.
 fn clear(forms: &mut [Form])
-    ensures { (k : ℕ) → k < length forms.new → slice_index_or forms.new k blank ≡ bare }
+    ensures { (k : ℕ) → slice_index_or forms.new k blank ≡ blank }
 {
     for form in forms.iter_mut() {
         *form = Form {
@@ -124,8 +120,6 @@ fn clear(forms: &mut [Form])
             flat: 0,
             head: 0,
             next: 0,
-            above: 128,
-            below: 129,
         };
     }
 }

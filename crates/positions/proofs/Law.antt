@@ -13,8 +13,7 @@ use Rattle.board.proofs.Outcomes.{laid_fewer}
 use Rattle.board.proofs.Trees.{in_tree, of_tree}
 use Rattle.rooms.specs.Games.{through}
 use Rattle.positions.specs.Answers.{Listed, PositionOf, FormedRoom, RoomAnswer, PositionsLaw}
-use Rattle.board.specs.Play.{Comes, already, after}
-use Rattle.positions.specs.Reach.{game_at}
+use Rattle.positions.specs.Reach.{Comes, already, after, game_at}
 use Rattle.positions.specs.Sets.{chosen, position}
 use Rattle.positions.specs.Values.{room_squares, moves_of, GroundOf, full_of, game_of_set}
 use Rattle.positions.specs.Forming.{LeadsTo, KindOf, MemoryOf, Went, Failed}

@@ -13,8 +13,7 @@ use Rattle.board.proofs.Trees.{in_tree, of_tree}
 use Rattle.rooms.proofs.Lists.{has_here}
 use Rattle.rooms.proofs.Through.{covered, seen_fewer}
 use Rattle.positions.specs.Sets.{has, chosen, position, inside, Holds, Move, Ground}
-use Rattle.board.specs.Play.{Comes, already, after}
-use Rattle.positions.specs.Reach.{Moves, game_at, set_at, Can, Leads, stay, move}
+use Rattle.positions.specs.Reach.{Moves, Comes, already, after, game_at, set_at, Can, Leads, stay, move}
 use Rattle.positions.proofs.Bits.{has_zero, ones_left, ones_some}
 use Rattle.positions.proofs.Steps.{has_covered, may_at, laid_at, place_at, inside_at, part_at}
 

@@ -12,7 +12,7 @@ use Rattle.forms.specs.Rows.{Rising}
 use Rattle.canonical.specs.declared.canonical.Refusal.{Refusal}
 use Rattle.canonical.specs.declared.canonical.Refusal.TheVariants.{Full, Wide, NoMemory}
 use Rattle.positions.specs.Growing.{Grows, Overfull, IsTooWide}
-use Rattle.board.specs.Play.{Comes}
+use Rattle.positions.specs.Reach.{Comes}
 use Rattle.positions.specs.declared.all_forms.RoomForms.{RoomForms}
 
 -- the forms that are noted of the first k sets, rising

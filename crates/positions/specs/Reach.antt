@@ -1,9 +1,15 @@
 -- What planks make of a room: its positions, and their games.
-use Rattle.std.specs.Prelude.{◌≡◌, ℕ, ◌-◌, ◌<◌, List, bit_and, slice_index}
+use Rattle.std.specs.Prelude.{◌≡◌, ℕ, ◌-◌, ◌<◌, true, List, bit_and, slice_index}
 use Rattle.games.specs.Game.{Game}
 use Rattle.board.specs.Grid.{Grid, Side, free_count}
+use Rattle.board.specs.Moves.{may, laid}
 use Rattle.board.specs.Tree.{tree}
 use Rattle.positions.specs.Sets.{position, row_for}
+
+-- planks of either player, in whatever order, lead from one board to another
+pub data Comes : Grid → Grid → Type 0 where
+  already : {b : Grid} → Comes b b
+  after : {b c : Grid} (s : Side) (p : ℕ) → may b s p ≡ true → Comes (laid b s p) c → Comes b c
 
 -- the game of a position of a room
 unfoldable pub game_at : Grid → List ℕ → ℕ → Game

@@ -1,28 +1,12 @@
 // Records with known answers, as they are told.
 use crate::follow::follow;
-use board::refusal::Failure;
 use std::test::Fail;
-use verdict::lent::LentRows;
 
 // The line that is printed for a record.
 fn line(rt: &HostRuntime, bytes: &[u8]) -> Result<String, Fail> {
-    let LentRows {
-        mut forms,
-        mut options,
-        mut positions,
-        mut pairs,
-    } = LentRows::new(rt.alloc())?;
-    match follow(
-        rt.alloc(),
-        bytes,
-        forms.as_mut_slice(),
-        options.as_mut_slice(),
-        positions.as_mut_slice(),
-        pairs.as_mut_slice(),
-    ) {
+    match follow(bytes) {
         Ok(outcome) => Ok(outcome.to_string(rt.alloc())?),
-        Err(Failure::Refused(refusal)) => Ok(refusal.to_string(rt.alloc())?),
-        Err(Failure::NoMemory) => Err(Fail::new("memory is wanting")),
+        Err(refusal) => Ok(refusal.to_string(rt.alloc())?),
     }
 }
 

@@ -14,17 +14,15 @@ use Rattle.rooms.proofs.Through.{covered, at_taken}
 
 module _ (b : Grid) (s : Side) (p : ℕ) where
   -- what is free after a plank was free before
-  pub free_before : (q : ℕ) → free (laid b s p) q ≡ true → free b q ≡ true
+  free_before : (q : ℕ) → free (laid b s p) q ≡ true → free b q ≡ true
   unfolding laid
   free_before q e = (and_parts (free b q) _ (sym (at_taken b.cells (covered b s p) q) ∙ e)).0
 
-  -- squares that share an edge after it did so before
-  pub next_before : (q r : ℕ) → Next (laid b s p) q r → Next b q r
+  next_before : (q r : ℕ) → Next (laid b s p) q r → Next b q r
   unfolding laid Edge
   next_before q r n = n
 
-  -- what is walked after it could be walked before
-  pub walk_before : {q r : ℕ} → Walk (laid b s p) q r → Walk b q r
+  walk_before : {q r : ℕ} → Walk (laid b s p) q r → Walk b q r
   walk_before stay = stay
   walk_before (go {p = q} m n f w) = go m (next_before q m n) (free_before m f) (walk_before w)
 

@@ -8,4 +8,3 @@ pub mod Walking
 pub mod Finding
 pub mod Answering
 pub mod After
-pub mod Held

@@ -2,7 +2,8 @@
 #![tactic(auto)]
 
 ghost use Rattle.board.specs.Rules.{Says};
-ghost use Rattle.board.specs.Values.{side_of, grid_of, answer_of};
+ghost use Rattle.board.specs.Values.{side_of, grid_of};
+ghost use Rattle.search.specs.Answers.{answer_of};
 
 use board::board::Board;
 use board::side::Side;

@@ -6,7 +6,6 @@ pub mod Summing
 pub mod Marking
 pub mod Adding
 pub mod Meeting
-pub mod Keeping
 pub mod Lining
 pub mod Counted
 pub mod Rounds

@@ -94,7 +94,7 @@ module _ (b : Grid) (rs : List (List ℕ)) (fs : List Form) (os : List ℕ) (n :
       stopped_on (Met empty (games_of b (rs ++ r ∷ []))) fs os n gs ps u hs qs e (grows_as (Met empty (games_of b rs)) (Met empty (games_of b (rs ++ r ∷ []))) old_met fs os n gs ps u before.grows)
       (stopped_as (Between T (room_game b r)) (Met empty (games_of b (rs ++ r ∷ []))) new_met gs ps u hs qs e s)
 
-  module _ (hs : List Form) (qs : List ℕ) (own next v : ℕ) (j : Joined T (room_game b r) gs ps u hs qs next v) (known : own < v) (worth : Equal (meaning (take v hs) qs own) (room_game b r)) where
+  module _ (hs : List Form) (qs : List ℕ) (own next v : ℕ) (j : Joined T b r gs ps u hs qs own next v) where
     far : u ≤ v
     far = grows_far (Between T (room_game b r)) gs ps u hs qs v before.grows.table j.grows
 
@@ -104,7 +104,7 @@ module _ (b : Grid) (rs : List (List ℕ)) (fs : List Form) (os : List ℕ) (n :
     owns_more : Owns b (rs ++ r ∷ []) hs qs v (owns ++ own ∷ [])
     owns_more = record {
       long = length_push owns own ∙ ap (λ k. k + 1) before.own.long ∙ sym (length_push rs r);
-      known = λ i h. ⊎_elim (λ low. subst (λ k. k < v) (sym (old i low)) (let a = far in let c = before.own.known i low in omega arith)) (λ high. subst (λ k. k < v) (sym (new i h high)) known) (cases_lt i (length rs));
+      known = λ i h. ⊎_elim (λ low. subst (λ k. k < v) (sym (old i low)) (let a = far in let c = before.own.known i low in omega arith)) (λ high. subst (λ k. k < v) (sym (new i h high)) j.known) (cases_lt i (length rs));
       worth = λ i h.
           ⊎_elim
           (λ low.
@@ -113,7 +113,7 @@ module _ (b : Grid) (rs : List (List ℕ)) (fs : List Form) (os : List ℕ) (n :
           (subst (λ g. Equal g (room_game b (get_or rs i []))) (sym (same (get_or owns i 0) (before.own.known i low))) (before.own.worth i low))))
           (λ high.
           subst (λ k. Equal (meaning (take v hs) qs k) (room_game b (get_or (rs ++ r ∷ []) i []))) (sym (new i h high))
-          (subst (λ q. Equal (meaning (take v hs) qs own) (room_game b q)) (sym (get_or_push rs r [] i (last i h high))) worth))
+          (subst (λ q. Equal (meaning (take v hs) qs own) (room_game b q)) (sym (get_or_push rs r [] i (last i h high))) j.worth))
           (cases_lt i (length rs));
     }
       where

@@ -5,6 +5,5 @@ pub mod Steps
 pub mod Reaching
 pub mod Pairing
 pub mod Rows
-pub mod Kept
 pub mod Counting
 pub mod Likeness

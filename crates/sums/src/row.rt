@@ -1,17 +1,15 @@
 // The rooms of a board beside each other.
-ghost use Rattle.std.specs.Prelude.{IfOk};
 ghost use Rattle.board.specs.Values.{grid_of};
 ghost use Rattle.rooms.specs.Values.{rooms_of, SmallRooms};
 ghost use Rattle.forms.specs.Links.{Table};
 ghost use Rattle.sums.specs.Counting.{RoomsAnswer};
-ghost use Rattle.sums.specs.Kept.{KeptRight, Keeps};
 ghost use Rattle.sums.specs.Sums.{HoldsRight};
 
 use crate::join::join;
-use crate::kept::{KeptRoom, keep_room};
 use board::board::Board;
 use canonical::canonical::Refusal;
 use forms::rows::Form;
+use positions::room::RoomMoves;
 use rooms::list::Rooms;
 use std::alloc::Global;
 
@@ -24,13 +22,11 @@ pub struct RowForms {
 }
 
 // The form of a board: that of its rooms beside each other. On the way it finds all forms that count for the board. Full where there is no place for
-// them all in `forms`, whose length is the limit; from a table of one form that is so exactly if the board's count is above the limit. What is kept of a
-// room is not found again, and after an answer every room of the board is kept.
+// them all in `forms`, whose length is the limit; from a table of one form that is so exactly if the board's count is above the limit.
 pub fn row_of_rooms(
     heap: Global,
     board: &Board,
     rooms: &Rooms,
-    kept: &mut Vec<KeptRoom>,
     forms: &mut [Form],
     options: &mut [u16],
     pairs: &mut [u32],
@@ -38,40 +34,24 @@ pub fn row_of_rooms(
     used: u16,
 ) -> Result<RowForms, Refusal>
     requires rooms { SmallRooms (grid_of board.now) (rooms_of rooms.now) }
-    requires kept { KeptRight (grid_of board.now) forms.old options.old used kept.old.items }
     requires table { Table forms.old options.old used }
     requires pairs { HoldsRight forms.old options.old used pairs.old }
-    ensures answer { RoomsAnswer (grid_of board.now) (rooms_of rooms.now) forms.old options.old used forms.new options.new pairs.new result }
-    ensures kept { IfOk result (λ x. Keeps (grid_of board.now) (rooms_of rooms.now) kept.old.items forms.new options.new x.used kept.new.items) }
+    ensures { RoomsAnswer (grid_of board.now) (rooms_of rooms.now) forms.old options.old used forms.new options.new pairs.new result }
 {
     let mut sum = 0;
     let mut owns = Vec::new(heap);
     let mut grown = used;
     let held = rooms.as_slice();
     for room in held {
-        let at = match keep_room(heap, board, room, kept, forms, options, positions, grown) {
-            Ok(at) => at,
-            Err(e) => return Err(e),
-        };
-        let entries = kept.as_slice();
-        let entry = &entries[at.place];
-        let joined = match join(
-            heap,
-            entry.own,
-            entry.all.as_slice(),
-            forms,
-            options,
-            pairs,
-            at.used,
-            sum,
-        ) {
+        let moves = RoomMoves::new(board, room);
+        let joined = match join(heap, &moves, forms, options, pairs, positions, grown, sum) {
             Ok(joined) => joined,
             Err(e) => return Err(e),
         };
-        let Ok(()) = owns.push(entry.own) else {
+        let Ok(()) = owns.push(joined.own) else {
             return Err(Refusal::NoMemory);
         };
-        sum = joined.form;
+        sum = joined.sum;
         grown = joined.used;
     }
     Ok(RowForms {

@@ -1,8 +1,7 @@
 -- Lemmas.
-pub mod Bounds
-pub mod Judges
-pub mod Liking
-pub mod Playing
-pub mod Rows
-pub mod Telling
-pub mod Weights
+pub mod Answers
+pub mod Losing
+pub mod Rounds
+pub mod Smaller
+pub mod Whole
+pub mod Worthy

@@ -1,8 +1,7 @@
 -- The definitions that the contracts of this crate speak of.
-pub mod Lent
-pub mod Limits
-pub mod Likes
+pub mod Choosing
 pub mod Judging
-pub mod Weighing
-pub mod Playing
+pub mod Limits
 pub mod Lines
+pub mod Trying
+pub mod Worths

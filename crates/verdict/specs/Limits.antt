@@ -1,29 +1,18 @@
--- Boards that are past the limits that a caller sets.
-use Rattle.std.specs.Prelude.{ℕ, ◌<◌, ◌≤◌, ◌⊎◌, ◌↔◌, List, length}
-use Rattle.std.specs.List.{ContainsAt as Has}
-use Rattle.board.specs.Grid.{Grid}
+-- Boards that are past the judge's limits.
+use Rattle.std.specs.Prelude.{◌≡◌, ℕ, ◌<◌, true, ◌⊎◌, List}
+use Rattle.games.specs.Game.{Game}
+use Rattle.games.specs.Count.{Member, Count, Wide}
+use Rattle.board.specs.Grid.{Grid, Side}
+use Rattle.board.specs.Moves.{may, laid}
+use Rattle.rooms.specs.Games.{games_of}
 use Rattle.rooms.specs.Rooms.{Rooms}
-use Rattle.rooms.specs.Values.{SmallRooms}
-use Rattle.advice.specs.Limits.{IsTooMany, Beyond}
-use Rattle.verdict.specs.declared.limits.Limits.{Limits}
 
--- more than so many squares, or a room of more than so many
-abbrev pub TooLarge : ℕ → ℕ → Grid → List (List ℕ) → Type 0
-TooLarge squares room b rs = (squares < length b.cells) ⊎ ((r : List ℕ) × Has rs r × (room < length r))
+-- the count of the board's rooms is above the number of forms, or one of the forms has more than 16 options for a player
+unfoldable pub Over : ℕ → Grid → Type 0
+Over forms b =
+    (rs : List (List ℕ)) × Rooms b rs
+    × (((n : ℕ) × Count (games_of b rs) n × (forms < n)) ⊎ ((f : Game) × Member (games_of b rs) f × Wide 16 f))
 
--- a board is past the limits: it is too large; or its own count is above the limit; or the count of it or of a board after one plank of either player is
--- above 16,384, or one of those forms has more than 16 options for a player
-unfoldable pub Past : Limits → Grid → Type 0
-Past l b = ((rs : List (List ℕ)) × Rooms b rs × TooLarge l.squares l.room b rs) ⊎ Beyond l.count 16384 b
-
--- the limits of the list of refusals
-abbrev pub whole : Limits
-whole = record { squares = 256; room = 16; count = 16384 }
-
--- the limits of the judging program
-abbrev pub small : Limits
-small = record { squares = 64; room = 8; count = 512 }
-
--- with the whole limits, a board of at most 256 squares with no room of more than 16 is past them exactly if there are too many forms
-unfoldable pub WholeLaw : Type 0
-WholeLaw = (b : Grid) (rs : List (List ℕ)) → length b.cells ≤ 256 → SmallRooms b rs → Past whole b ↔ IsTooMany 16384 b
+-- the board is, or a board that one lawful plank of either side makes of it
+unfoldable pub IsTooMany : ℕ → Grid → Type 0
+IsTooMany forms b = Over forms b ⊎ ((s : Side) × (p : ℕ) × (may b s p ≡ true) × Over forms (laid b s p))

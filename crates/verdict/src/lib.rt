@@ -1,10 +1,9 @@
-// The verdict: who makes the last move, where to lay, and which rooms are alike.
+// The verdict: who makes the last move, and where to lay.
 #![tactic(auto)]
 
+pub mod choose;
 pub mod judge;
-pub mod lent;
-pub mod likes;
-pub mod limits;
-pub mod told;
+pub mod lost;
+pub mod tries;
 pub mod verdict;
-pub mod weigh;
+pub mod worth;

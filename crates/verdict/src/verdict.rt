@@ -46,24 +46,20 @@ impl fmt::Display for RoomCount {
     }
 }
 
-// A room by its number and its first square, and the first earlier room that is alike.
+// A room by its number and its first square.
 #[derive(Clone, Copy)]
 pub struct RoomPlace {
     pub number: usize,
     pub first: u16,
-    pub like: Option<usize>,
 }
 
-// "room 1 at 3", "room 1 at 3 like 0"
+// "room 1 at 3"
 impl fmt::Display for RoomPlace {
-    ghost output = { λ x. Some (room_text x.number x.first x.like) };
+    ghost output = { λ x. Some (room_text x.number x.first) };
 
     fn fmt<W: fmt::Write>(&self, f: &mut fmt::Formatter<W>) -> fmt::Result {
         let number = self.number;
         let first = self.first;
-        match self.like {
-            Some(like) => write!(f, "room {number} at {first} like {like}"),
-            None => write!(f, "room {number} at {first}"),
-        }
+        write!(f, "room {number} at {first}")
     }
 }

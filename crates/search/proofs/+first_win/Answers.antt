@@ -1,9 +1,8 @@
-use mathlib.Core.Path.{ap}
-use native.Mathlib.Omega.{arith}
+use Rattle.std.proofs.Common.{ap, arith}
 use Rattle.board.specs.Grid.{Grid, free_count}
 use Rattle.board.specs.Values.{side_of, grid_of}
 use Rattle.board.proofs.Outcomes.{laid_fewer}
-use Rattle.board.proofs.Turns.{reply, answered, found, none_found}
+use Rattle.search.proofs.Turns.{reply, answered, found, none_found}
 use Rattle.search.proofs.+first_win.Goals as goal
 
 pub first_win-requires : goal.first_win-requires

@@ -1,6 +1,6 @@
 use Rattle.board.specs.Grid.{free_count}
 use Rattle.board.specs.Values.{side_of, grid_of}
-use Rattle.board.proofs.Turns.{NoneGood}
+use Rattle.search.proofs.Turns.{NoneGood}
 use Rattle.search.proofs.+first_win.Given as goal
 
 abbrev pub decreases-first_win : goal.decreases-first_win

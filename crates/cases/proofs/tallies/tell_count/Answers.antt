@@ -1,9 +1,7 @@
-use Rattle.std.proofs.Common.{replicate, vec_items, sym, subst}
-use Rattle.board.specs.Values.{grid_of}
+use Rattle.std.proofs.Common.{replicate, sym, subst}
 use Rattle.forms.specs.Links.{Table}
 use Rattle.rooms.specs.Values.{Found}
 use Rattle.sums.proofs.Holding.{holds_none}
-use Rattle.sums.proofs.Keeping.{kept_none}
 use Rattle.cases.proofs.Zeros.{zeros}
 use Rattle.cases.proofs.tallies.tell_count.Goals as goal
 
@@ -13,7 +11,6 @@ row_of_rooms-requires c =
     let begun = c.in-Some.ensures in
     record {
       rooms = c.in-Ok-all_rooms.ensures;
-      kept = kept_none (grid_of c.in-Ok.setup.board) c.start.new.forms (replicate 16384 0) c.in-Some.used (vec_items c.new-kept.result) c.new-kept.ensures.items;
       table = subst (Table c.start.new.forms (replicate 16384 0)) (sym begun.0) begun.1;
       pairs = holds_none c.start.new.forms (replicate 16384 0) c.in-Some.used (replicate 4096 0) (zeros 4096);
     }

@@ -4,9 +4,6 @@ use Rattle.forms.proofs.Windows.{part_long, length_put, before_put, row_put}
 use Rattle.forms.proofs.Linking.{table_after, kept_after, new_row}
 use Rattle.forms.proofs.table.add.Goals as goal
 
-pub bounds_of-bounds-requires : goal.bounds_of-bounds-requires
-bounds_of-bounds-requires c = record { upright = c.requires.fresh.known true; flat = c.requires.fresh.known false }
-
 pub write_row-requires : goal.write_row-requires
 write_row-requires c =
     record {
@@ -35,9 +32,8 @@ returns c =
     let same : length ps ≡ length os = length_put n os at room long in
     let before = before_put n os at room long in
     let written = row_put n os at room long us ls (c.requires.fresh.few true) (c.requires.fresh.few false) c.write_row.ensures.upright c.write_row.ensures.flat in
-    let bounded = c.bounds_of-bounds.ensures os t.sound in
     record {
-      table = table_after c.args.forms.now os n us ls t c.requires.room c.requires.fresh c.bucket-bucket.result c.bucket-bucket.ensures.bound c.bucket-bucket.ensures.value ps same before written _ _ bounded;
-      kept = kept_after c.args.forms.now os n us ls t c.requires.room c.requires.fresh c.bucket-bucket.result c.bucket-bucket.ensures.bound c.bucket-bucket.ensures.value ps same before written _ _ bounded;
-      rows = new_row c.args.forms.now os n us ls t c.requires.room c.requires.fresh c.bucket-bucket.result c.bucket-bucket.ensures.bound c.bucket-bucket.ensures.value ps same before written _ _ bounded;
+      table = table_after c.args.forms.now os n us ls t c.requires.room c.requires.fresh c.bucket-bucket.result c.bucket-bucket.ensures.bound c.bucket-bucket.ensures.value ps same before written;
+      kept = kept_after c.args.forms.now os n us ls t c.requires.room c.requires.fresh c.bucket-bucket.result c.bucket-bucket.ensures.bound c.bucket-bucket.ensures.value ps same before written;
+      rows = new_row c.args.forms.now os n us ls t c.requires.room c.requires.fresh c.bucket-bucket.result c.bucket-bucket.ensures.bound c.bucket-bucket.ensures.value ps same before written;
     }

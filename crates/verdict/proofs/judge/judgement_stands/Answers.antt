@@ -1,4 +1,4 @@
-use Rattle.verdict.proofs.Judges.{one_judgement, one_file_judgement}
+use Rattle.verdict.proofs.Answers.{one_judgement, one_file_judgement}
 use Rattle.verdict.proofs.judge.judgement_stands.Goals as goal
 
 pub returns : goal.returns

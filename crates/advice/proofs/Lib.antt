@@ -1,6 +1,0 @@
--- Lemmas.
-pub mod Losing
-pub mod Rounds
-pub mod Smaller
-pub mod Whole
-pub mod Worthy

@@ -1,0 +1,16 @@
+use Rattle.std.proofs.Common.{replicate, sym, subst}
+use Rattle.forms.specs.Links.{Table}
+use Rattle.rooms.specs.Values.{Found}
+use Rattle.sums.proofs.Holding.{holds_none}
+use Rattle.cases.proofs.Zeros.{zeros}
+use Rattle.cases.proofs.agree.is_same.Goals as goal
+
+pub choose-requires : goal.choose-requires
+unfolding Found
+choose-requires c =
+    let begun = c.in-Some.ensures in
+    record {
+      rooms = c.in-Ok-all_rooms.ensures;
+      table = subst (Table c.start.new.forms (replicate 4096 0)) (sym begun.0) begun.1;
+      pairs = holds_none c.start.new.forms (replicate 4096 0) c.in-Some.used (replicate 512 0) (zeros 512);
+    }

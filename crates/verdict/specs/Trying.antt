@@ -1,0 +1,42 @@
+-- The planks that a side may lay on a board, tried one after the other.
+use Rattle.std.specs.Prelude.{◌≡◌, ℕ, ◌<◌, true, List, length, Some, None, Ok, Err, Option, Result}
+use Rattle.board.specs.Grid.{Grid, Side, other}
+use Rattle.board.specs.Moves.{may, laid}
+use Rattle.board.specs.Rules.{Wins, lay, Says}
+use Rattle.rooms.specs.Rooms.{Larger}
+use Rattle.forms.specs.declared.rows.Form.{Form}
+use Rattle.forms.specs.Links.{Table}
+use Rattle.sums.specs.Sums.{HoldsRight}
+use Rattle.sums.specs.declared.row.RowForms.{RowForms}
+use Rattle.verdict.specs.Limits.{Over}
+use Rattle.verdict.specs.Worths.{WorthAnswer}
+use Rattle.verdict.specs.declared.worth.Failure.{Failure}
+use Rattle.verdict.specs.declared.worth.Failure.TheVariants.{Count, NoMemory}
+use Rattle.verdict.specs.declared.tries.Tries.{Tries}
+
+-- no room has more than 16 squares
+unfoldable pub NotLarge : Grid → Type 0
+NotLarge b = (p : ℕ) → Larger 16 b p → ⊥
+
+-- the worth of a board with its rooms
+abbrev pub FoundWorth : Grid → List Form → List Form → List ℕ → List ℕ → Result RowForms Failure → Type 0
+FoundWorth b fs gs ps qs r = (rs : List (List ℕ)) × WorthAnswer b rs fs gs ps qs r
+
+-- the first place below k after which the other side has lost; or after each the other side wins
+unfoldable pub FirstGood : Side → Grid → ℕ → Option ℕ → Type 0
+FirstGood s b k (Some p) = Says s b (lay p)
+FirstGood s b k None = (p : ℕ) → p < k → may b s p ≡ true → Wins (other s) (laid b s p)
+
+-- the places below k were tried: the table is sound, what is remembered of pairs is right, and no board after a plank there is past the limits
+pub record Tried (s : Side) (b : Grid) (k : ℕ) (fs gs : List Form) (ps qs : List ℕ) (found : Option ℕ) (u : ℕ) : Type 0 where
+  pub table : Table gs ps u
+  pub long : length gs ≡ length fs
+  pub pairs : HoldsRight gs ps u qs
+  pub within : (p : ℕ) → p < k → may b s p ≡ true → Over (length fs) (laid b s p) → ⊥
+  pub first : FirstGood s b k found
+
+-- all places were tried; or the board after one of the planks is past the limits; or memory is wanting
+abbrev pub TriedAnswer : Side → Grid → List Form → List Form → List ℕ → List ℕ → Result Tries Failure → Type 0
+TriedAnswer s b fs gs ps qs (Ok x) = Tried s b (length b.cells) fs gs ps qs x.first x.used
+TriedAnswer s b fs gs ps qs (Err Count) = (p : ℕ) × (may b s p ≡ true) × Over (length fs) (laid b s p)
+TriedAnswer s b fs gs ps qs (Err NoMemory) = Unit {0}
