@@ -1,5 +1,5 @@
 -- Looking a row up along the links of its bucket.
-use Rattle.std.proofs.Common.{◌≡◌, ℕ, suc, ◌+◌, ◌-◌, ◌*◌, ◌%◌, ◌<◌, ◌≤◌, Bool, true, false, List, length, get_or, take, drop, Decides, sym, ◌∙◌, subst, arith}
+use Rattle.std.proofs.Common.{◌≡◌, ℕ, suc, ◌+◌, ◌*◌, ◌%◌, ◌<◌, ◌≤◌, Bool, true, false, List, length, get_or, take, drop, Decides, refl, sym, ◌∙◌, subst, arith}
 use Rattle.std.proofs.lemmas.List.{at_drop_more, at_drop_all, length-take-le}
 use Rattle.std.proofs.lemmas.Bool.{both_ways}
 use Rattle.forms.specs.declared.rows.Form.{Form}
@@ -30,10 +30,10 @@ module _ (fs : List Form) (os us ls : List ℕ) (k : ℕ) (xs : List ℕ) (a : B
 pub use_length : (fs : List Form) (os : List ℕ) (n : ℕ) → Table fs os n → length (take n fs) ≡ n
 use_length fs os n t = length-take-le n fs t.within
 
--- a link that leads to a form that is not the first, leads there from the next
-pub leads_on : {fs : List Form} {j a : ℕ} → Leads fs j a → (a - 1 ≡ j → ⊥) → Leads fs j (next_at fs (a - 1))
-leads_on {fs} {j} here other = absurd (other (omega arith))
-leads_on {fs} {j} (on i rest) other = let e : suc i - 1 ≡ i = omega arith in subst (λ k. Leads fs j (next_at fs k)) (sym e) rest
+-- a link that leads to another form than the one it names, leads there from the next
+pub leads_on : {fs : List Form} {j k : ℕ} → Leads fs j (suc k) → (k ≡ j → ⊥) → Leads fs j (next_at fs k)
+leads_on here other = absurd (other refl)
+leads_on (on k rest) other = rest
 
 -- no link leads nowhere
 pub leads_none : {fs : List Form} {j a : ℕ} → Leads fs j a → a ≤ 0 → ⊥
@@ -49,6 +49,6 @@ module _ (fs : List Form) (os : List ℕ) (n : ℕ) (t : Table fs os n) (us ls :
       subst (λ c. Leads fs k (head_of fs c)) same (t.linked k low)
 
   -- the walk goes on past a form that does not have them
-  pub past : (a : ℕ) → ((k : ℕ) → k < length (take n fs) → IsRow (take n fs) os us ls k → Leads fs k a) → (IsRow (take n fs) os us ls (a - 1) → ⊥) →
-      (k : ℕ) → k < length (take n fs) → IsRow (take n fs) os us ls k → Leads fs k (next_at fs (a - 1))
-  past a leads other k h is = leads_on (leads k h is) (λ e. other (subst (IsRow (take n fs) os us ls) (sym e) is))
+  pub past : (j : ℕ) → ((k : ℕ) → k < length (take n fs) → IsRow (take n fs) os us ls k → Leads fs k (suc j)) → (IsRow (take n fs) os us ls j → ⊥) →
+      (k : ℕ) → k < length (take n fs) → IsRow (take n fs) os us ls k → Leads fs k (next_at fs j)
+  past j leads other k h is = leads_on (leads k h is) (λ e. other (subst (IsRow (take n fs) os us ls) (sym e) is))

@@ -1,12 +1,12 @@
 -- The table after a form is added: its links, and with them the whole table.
-use Rattle.std.proofs.Common.{◌≡◌, ℕ, suc, ◌+◌, ◌*◌, ◌<◌, ◌≤◌, true, false, ◌⊎◌, List, length, get_or, take, drop, set, sym, refl, ap, ◌∙◌, subst, inl, inr, mod-lt, add-one, arith, below_more}
+use Rattle.std.proofs.Common.{◌≡◌, ℕ, suc, ◌+◌, ◌*◌, ◌<◌, ◌≤◌, true, false, ◌⊎◌, List, Some, length, get_or, take, drop, set, sym, refl, ap, ◌∙◌, subst, inl, inr, mod-lt, add-one, arith, below_more}
 use Rattle.std.proofs.lemmas.List.{get_or-set_same, get_or-set_other, get_or-take, length-set, length-take-le}
 use Rattle.std.proofs.lemmas.Bool.{cases_eq}
 use Rattle.games.specs.Game.{Side}
 use Rattle.forms.specs.declared.rows.Form.{Form}
 use Rattle.forms.specs.Rows.{blank, many, place, row_of, row_for}
 use Rattle.forms.specs.Soundness.{Sound}
-use Rattle.forms.specs.Links.{bucket_of, head_of, next_at, Leads, here, on, Table}
+use Rattle.forms.specs.Links.{bucket_of, link_number, head_of, next_at, Leads, here, on, Table}
 use Rattle.forms.specs.Growth.{IsRow, Fresh, Kept}
 use Rattle.forms.proofs.Windows.{window_same}
 use Rattle.forms.proofs.Growing.{kept_more, sound_more}
@@ -39,10 +39,10 @@ bucket_below size us ls h = mod-lt _ h
 
 -- the bucket's link set to the new form n, and the new form's own entry
 abbrev pub marked : List Form → ℕ → ℕ → List Form
-marked fs b n = set fs b (record { upright = (get_or fs b blank).upright; flat = (get_or fs b blank).flat; head = n + 1; next = (get_or fs b blank).next })
+marked fs b n = set fs b (record { upright = (get_or fs b blank).upright; flat = (get_or fs b blank).flat; head = Some n; next = (get_or fs b blank).next })
 
 abbrev pub grown : List Form → ℕ → ℕ → List ℕ → List ℕ → List Form
-grown fs b n us ls = set (marked fs b n) n (record { upright = length us; flat = length ls; head = head_of (marked fs b n) n; next = head_of fs b })
+grown fs b n us ls = set (marked fs b n) n (record { upright = length us; flat = length ls; head = (get_or (marked fs b n) n blank).head; next = (get_or fs b blank).head })
 
 module _
     (fs : List Form) (os : List ℕ) (n : ℕ) (us ls : List ℕ) (t : Table fs os n) (room : n < length fs) (fresh : Fresh (take n fs) os us ls)
@@ -70,7 +70,7 @@ module _
   many_other false k other = ap (λ (f : Form). f.flat) (get_or-set_other mid n k _ blank other) ∙ set_keeps (λ f. f.flat) fs b _ low refl k
 
   next_other : (k : ℕ) → (k ≡ n → ⊥) → next_at gs k ≡ next_at fs k
-  next_other k other = ap (λ (f : Form). f.next) (get_or-set_other mid n k _ blank other) ∙ set_keeps (λ f. f.next) fs b _ low refl k
+  next_other k other = ap (λ (f : Form). link_number f.next) (get_or-set_other mid n k _ blank other) ∙ set_keeps (λ f. link_number f.next) fs b _ low refl k
 
   -- and of the new one
   many_new : (s : Side) → many s (get_or gs n blank) ≡ length (row_for s us ls)
@@ -78,14 +78,14 @@ module _
   many_new false = ap (λ (f : Form). f.flat) (get_or-set_same mid n _ blank room_mid)
 
   next_new : next_at gs n ≡ head_of fs b
-  next_new = ap (λ (f : Form). f.next) (get_or-set_same mid n _ blank room_mid)
+  next_new = ap (λ (f : Form). link_number f.next) (get_or-set_same mid n _ blank room_mid)
 
   -- the links of the buckets
   head_bucket : head_of gs b ≡ n + 1
-  head_bucket = set_keeps (λ f. f.head) mid n _ room_mid refl b ∙ ap (λ (f : Form). f.head) (get_or-set_same fs b _ blank low)
+  head_bucket = set_keeps (λ f. link_number f.head) mid n _ room_mid refl b ∙ ap (λ (f : Form). link_number f.head) (get_or-set_same fs b _ blank low) ∙ sym (add-one n)
 
   head_other : (c : ℕ) → (c ≡ b → ⊥) → head_of gs c ≡ head_of fs c
-  head_other c other = set_keeps (λ f. f.head) mid n _ room_mid refl c ∙ ap (λ (f : Form). f.head) (get_or-set_other fs b c _ blank other)
+  head_other c other = set_keeps (λ f. link_number f.head) mid n _ room_mid refl c ∙ ap (λ (f : Form). link_number f.head) (get_or-set_other fs b c _ blank other)
 
   -- the forms in use, before and after
   use_old : length (take n fs) ≡ n

@@ -1,8 +1,8 @@
 -- A table of one form, the empty game.
-use Rattle.std.proofs.Common.{◌≡◌, ℕ, ◌*◌, ◌<◌, ◌≤◌, true, false, List, [], length, get_or, take, drop, sym, refl, ap, ◌∙◌, subst, inl, inr, arith}
+use Rattle.std.proofs.Common.{◌≡◌, ℕ, ◌*◌, ◌<◌, ◌≤◌, true, false, List, [], length, get_or, take, drop, replicate, sym, refl, ap, ◌∙◌, subst, inl, inr, arith}
 use Rattle.std.specs.List.{AllByRecursion as Every}
-use Rattle.std.proofs.lemmas.List.{get_or-set_same, get_or-set_other, get_or-take, length-set, length-take-le}
-use Rattle.std.proofs.lemmas.Bool.{cases_eq}
+use Rattle.std.proofs.lemmas.List.{get_or-set_same, get_or-set_other, get_or-take, get_or-replicate, get_or_past, length-replicate, length-set, length-take-le}
+use Rattle.std.proofs.lemmas.Bool.{cases_eq, cases_lt}
 use Rattle.games.specs.Game.{Side, other, game, options, In, empty}
 use Rattle.games.specs.Order.{Worse, NotWorse}
 use Rattle.games.specs.Canonical.{Canonical, canonical}
@@ -10,7 +10,7 @@ use Rattle.forms.specs.declared.rows.Form.{Form}
 use Rattle.forms.specs.Rows.{blank, many, place, row_of, Rising}
 use Rattle.forms.specs.Meaning.{listed, meaning}
 use Rattle.forms.specs.Soundness.{Sound}
-use Rattle.forms.specs.Links.{bucket_of, head_of, next_at, Leads, here, Table}
+use Rattle.forms.specs.Links.{bucket_of, link_number, head_of, next_at, Leads, here, Table}
 use Rattle.forms.proofs.Linking.{set_keeps, marked}
 
 empty_canonical : Canonical empty
@@ -18,6 +18,15 @@ empty_canonical =
     canonical (λ s x i. elim s as (λ t. In x (options t empty) → Canonical x) [ true ↦ λ j. elim j [ ] | false ↦ λ j. elim j [ ] ] i)
     (λ s x y i. elim s as (λ t. In x (options t empty) → In y (options t empty) → Worse t x y → x ≡ y) [ true ↦ λ j. elim j [ ] | false ↦ λ j. elim j [ ] ] i)
     (λ s x y i. elim s as (λ t. In x (options t empty) → In y (options (other t) x) → NotWorse t y empty) [ true ↦ λ j. elim j [ ] | false ↦ λ j. elim j [ ] ] i)
+
+-- every place of a row of blank forms is blank, and every place past it
+pub all_blank : (fs : List Form) (n : ℕ) → fs ≡ replicate n blank → (k : ℕ) → get_or fs k blank ≡ blank
+all_blank fs n e k =
+    ap (λ l. get_or l k blank) e
+    ∙ elim (cases_lt k n) [
+      | inl h ↦ get_or-replicate n k blank blank h
+      | inr h ↦ get_or_past (replicate n blank) k blank (subst (λ m. m ≤ k) (sym (length-replicate n blank)) h)
+    ]
 
 -- what holds of form 0, holds of each of one form
 only : (P : ℕ → Type 0) → P 0 → (k : ℕ) → k < 1 → P k
@@ -66,7 +75,7 @@ module _
       }
 
   head_at : head_of gs b ≡ 1
-  head_at = ap (λ (f : Form). f.head) (get_or-set_same fs b _ blank low)
+  head_at = ap (λ (f : Form). link_number f.head) (get_or-set_same fs b _ blank low)
 
   pub table_start : Table gs os 1
   table_start =
@@ -80,9 +89,9 @@ module _
             λ c h.
             elim (cases_eq c b) [
               | inl same ↦ (let e : head_of gs c ≡ 1 = ap (head_of gs) same ∙ head_at in omega arith)
-              | inr other ↦ (let e : head_of gs c ≡ 0 = ap (λ (f : Form). f.head) (get_or-set_other fs b c _ blank other) ∙ ap (λ (f : Form). f.head) (cleared c) in omega arith)
+              | inr other ↦ (let e : head_of gs c ≡ 0 = ap (λ (f : Form). link_number f.head) (get_or-set_other fs b c _ blank other) ∙ ap (λ (f : Form). link_number f.head) (cleared c) in omega arith)
             ];
-        falls = λ k h. let e : next_at gs k ≡ 0 = set_keeps (λ f. f.next) fs b _ low refl k ∙ ap (λ (f : Form). f.next) (cleared k) in omega arith;
+        falls = λ k h. let e : next_at gs k ≡ 0 = set_keeps (λ f. link_number f.next) fs b _ low refl k ∙ ap (λ (f : Form). link_number f.next) (cleared k) in omega arith;
         linked =
             only (λ k. Leads gs k (head_of gs (bucket_of (length gs) (row_of (take 1 gs) os true k) (row_of (take 1 gs) os false k))))
             (let same : bucket_of (length gs) (row_of (take 1 gs) os true 0) (row_of (take 1 gs) os false 0) ≡ b = (λ i. bucket_of (long i) (no_row true i) (no_row false i)) ∙ sym is-bucket in

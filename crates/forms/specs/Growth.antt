@@ -35,7 +35,15 @@ pub record Kept (fs : List Form) (os : List ℕ) (gs : List Form) (ps : List ℕ
   pub rows : (s : Side) (k : ℕ) → k < length fs → row_of gs ps s k ≡ row_of fs os s k
   pub games : (k : ℕ) → k < length fs → meaning gs ps k ≡ meaning fs os k
 
--- what beginning a table answers: a table of one form; or none exactly if there is no form, there are too many, or too few options for them, and nothing is changed
+-- no table can be begun: there is no form, there are too many, or too few options for them
+abbrev pub NoTable : List Form → List ℕ → Type 0
+NoTable fs os = (length fs ≡ 0) ⊎ ((16384 < length fs) ⊎ (length os < 32 * length fs))
+
+-- what beginning a table answers: a table of one form; or none exactly if none can be begun, and nothing is changed
 abbrev pub Started : List Form → List ℕ → List Form → Option ℕ → Type 0
 Started fs os gs (Some n) = (n ≡ 1) × Table gs os 1
-Started fs os gs None = (gs ≡ fs) × ((length fs ≡ 0) ⊎ ((16384 < length fs) ⊎ (length os < 32 * length fs)))
+Started fs os gs None = (gs ≡ fs) × NoTable fs os
+
+-- a table of one form is begun, whatever row has room for the options of all forms
+abbrev pub Begun : List Form → ℕ → Type 0
+Begun gs n = (n ≡ 1) × ((os : List ℕ) → 32 * length gs ≤ length os → Table gs os 1)

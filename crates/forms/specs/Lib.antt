@@ -5,3 +5,4 @@ pub mod Soundness
 pub mod Links
 pub mod Growth
 pub mod Laws
+pub mod Values

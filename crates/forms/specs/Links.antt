@@ -1,5 +1,5 @@
 -- A table in lent memory: sound rows in use, and the links by which a row is looked up.
-use Rattle.std.specs.Prelude.{ℕ, suc, ◌+◌, ◌*◌, ◌%◌, ◌<◌, ◌≤◌, true, false, List, [], ◌∷◌, length, take, slice_index_or}
+use Rattle.std.specs.Prelude.{ℕ, suc, ◌+◌, ◌*◌, ◌%◌, ◌<◌, ◌≤◌, true, false, List, [], ◌∷◌, Option, None, Some, length, take, slice_index_or}
 use Rattle.forms.specs.declared.rows.Form.{Form}
 use Rattle.forms.specs.Rows.{blank, row_of}
 use Rattle.forms.specs.Soundness.{Sound}
@@ -13,13 +13,18 @@ mixed h (x ∷ xs) = mixed ((h * 40503 + x + 1) % 65521) xs
 unfoldable pub bucket_of : ℕ → List ℕ → List ℕ → ℕ
 bucket_of size us ls = mixed (mixed (length us % 65521) us) ls % size
 
--- the link from a bucket to its last form: 0, or one more than a form's number
+-- a link as a number: 0 where it leads nowhere, or one more than the form's number
+abbrev pub link_number : Option ℕ → ℕ
+link_number None = 0
+link_number (Some k) = suc k
+
+-- the link from a bucket to its last form
 abbrev pub head_of : List Form → ℕ → ℕ
-head_of fs b = (slice_index_or fs b blank).head
+head_of fs b = link_number (slice_index_or fs b blank).head
 
 -- the link from a form to the one before it in its bucket
 abbrev pub next_at : List Form → ℕ → ℕ
-next_at fs k = (slice_index_or fs k blank).next
+next_at fs k = link_number (slice_index_or fs k blank).next
 
 -- a link leads to form k
 pub data Leads (fs : List Form) (k : ℕ) : ℕ → Type 0 where

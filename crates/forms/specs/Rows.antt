@@ -1,12 +1,12 @@
 -- Where the rows of forms lie in the lent memory, and rows that rise.
-use Rattle.std.specs.Prelude.{ℕ, ◌+◌, ◌*◌, ◌<◌, true, false, List, [], ◌∷◌, take, drop, slice_index_or}
+use Rattle.std.specs.Prelude.{ℕ, ◌+◌, ◌*◌, ◌<◌, true, false, List, [], ◌∷◌, None, take, drop, slice_index_or}
 use Rattle.std.specs.List.{AllByRecursion as Every}
 use Rattle.games.specs.Game.{Side}
 use Rattle.forms.specs.declared.rows.Form.{Form}
 
 -- what stands at a number past the end
 abbrev pub blank : Form
-blank = record { upright = 0; flat = 0; head = 0; next = 0 }
+blank = record { upright = 0; flat = 0; head = None; next = None }
 
 -- how many options a form has for a side
 abbrev pub many : Side → Form → ℕ

@@ -1,30 +1,68 @@
 // Forms and their rows of options. Form k has 32 places in the options: from 32 k on for the player of upright planks, from 32 k + 16 on for the
-// player of flat ones. A side is true for the player of upright planks.
+// player of flat ones.
 ghost use Rattle.std.specs.Prelude.{◌≡◌, ◌<◌, length};
-ghost use Rattle.forms.specs.Rows.{row_of};
-ghost use Rattle.forms.specs.Soundness.{Sound};
+ghost use Rattle.board.specs.Values.{side_of};
+ghost use Rattle.forms.specs.Rows.{row_of, row_for};
+ghost use Rattle.forms.specs.Values.{IsSound};
+
+use board::side::Side;
 
 // How many options a form has for each player, and its links: the last form of the bucket with this number, and the form before this one in its
-// own bucket, each as 0 or one more than a form's number.
+// own bucket.
 #[derive(Clone, Copy, Drop)]
 pub struct Form {
     pub upright: u8,
     pub flat: u8,
-    pub head: u16,
-    pub next: u16,
+    pub head: Option<u16>,
+    pub next: Option<u16>,
 }
 
-// The options of form k for a side.
-pub fn row<'a>(forms: &[Form], options: &'a [u16], side: bool, k: u16) -> &'a [u16]
-    requires sound { Sound forms.now options.now }
-    requires known { k < length forms.now }
-    ensures { result.now ≡ row_of forms.now options.now side k }
-{
-    let form = forms[k as usize];
-    let start = 32 * k as usize;
-    if side {
-        &options[start..start + form.upright as usize]
-    } else {
-        &options[start + 16..start + 16 + form.flat as usize]
+// A place of a table in which no form stands yet.
+pub const BLANK: Form = Form {
+    upright: 0,
+    flat: 0,
+    head: None,
+    next: None,
+};
+
+// Forms to be read, and the memory in which their options stand.
+#[derive(Clone, Copy)]
+pub struct Forms<'a> {
+    pub forms: &'a [Form],
+    pub options: &'a [u16],
+}
+
+impl<'a> Forms<'a> {
+    // The options of form k for a side.
+    pub fn row(self, side: Side, k: u16) -> &'a [u16]
+        requires sound { IsSound self }
+        requires known { k < length self.forms.now }
+        ensures { result.now ≡ row_of self.entry.forms.now self.entry.options.now (side_of side) k }
+    {
+        let form = self.forms[k as usize];
+        let start = 32 * k as usize;
+        match side {
+            Side::Upright => &self.options[start..start + form.upright as usize],
+            Side::Flat => &self.options[start + 16..start + 16 + form.flat as usize],
+        }
+    }
+}
+
+// Two rows of forms, which give a game: what each player may make of it.
+#[derive(Clone, Copy)]
+pub struct Rows<'a> {
+    pub upright: &'a [u16],
+    pub flat: &'a [u16],
+}
+
+impl<'a> Rows<'a> {
+    // The row of a side.
+    pub fn of(self, side: Side) -> &'a [u16]
+        ensures { result.now ≡ row_for (side_of side) self.entry.upright.now self.entry.flat.now }
+    {
+        match side {
+            Side::Upright => self.upright,
+            Side::Flat => self.flat,
+        }
     }
 }

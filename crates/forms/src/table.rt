@@ -1,51 +1,121 @@
 // The table in lent memory: begun, looked up in, and grown. Forms whose rows fall into one bucket are linked, each to the one before it.
 ghost use Rattle.std.specs.Prelude.{◌≡◌, ℕ, ◌+◌, ◌%◌, ◌<◌, ◌≤◌, true, false, length, take, drop, Decides, slice_index_or};
 ghost use Rattle.forms.specs.Rows.{blank};
-ghost use Rattle.forms.specs.Soundness.{Sound};
-ghost use Rattle.forms.specs.Links.{mixed, bucket_of, Table};
-ghost use Rattle.forms.specs.Growth.{IsRow, Found, Fresh, Kept, Started};
+ghost use Rattle.forms.specs.Links.{mixed, bucket_of};
+ghost use Rattle.forms.specs.Growth.{IsRow, Found, Fresh, Kept, Started, Begun};
+ghost use Rattle.forms.specs.Values.{IsSound, IsTable, in_use, SameRows, BegunIn};
 
-use crate::rows::{Form, row};
+use crate::rows::{BLANK, Form, Forms, Rows};
+use board::side::Side;
 
-// The form in use that has these two rows, or None where no form has them.
-pub fn find(
-    forms: &[Form],
-    options: &[u16],
-    used: u16,
-    upright: &[u16],
-    flat: &[u16],
-) -> Option<u16>
-    requires table { Table forms.now options.now used }
-    ensures { Found (take used forms.now) options.now upright.now flat.now result }
-{
-    let in_use = &forms[..used as usize];
-    let mut link = forms[bucket(forms.len(), upright, flat)].head;
-    while link > 0 {
-        let k = link - 1;
-        if is_row(in_use, options, k, upright, flat) {
-            return Some(k);
-        }
-        link = forms[k as usize].next;
+// Two lent rows, one for forms and one for their options, and how many forms are in use.
+#[derive(Drop)]
+pub struct Table<'a> {
+    pub forms: &'a mut [Form],
+    pub options: &'a mut [u16],
+    pub used: u16,
+}
+
+impl<'a> Table<'a> {
+    // A table of one form, the empty game, in these rows; None where none can be begun in them.
+    pub fn new(forms: &'a mut [Form], options: &'a mut [u16]) -> Option<Table<'a>>
+        ensures { BegunIn forms.entry options.entry result }
+    {
+        let used = start(forms, options)?;
+        Some(Table {
+            forms,
+            options,
+            used,
+        })
     }
-    None
+
+    // The forms in use, to be read.
+    pub fn in_use(&self) -> Forms<'_>
+        requires { IsTable self.now }
+        ensures sound { IsSound result }
+        ensures forms { result.forms.now ≡ in_use self.now }
+        ensures options { result.options.now ≡ self.now.options.now }
+    {
+        Forms {
+            forms: &self.forms[..self.used as usize],
+            options: &*self.options,
+        }
+    }
+
+    // The form in use that has these two rows, or None where no form has them.
+    pub fn find(&self, rows: Rows) -> Option<u16>
+        requires { IsTable self.now }
+        ensures { Found (in_use self.now) self.now.options.now rows.entry.upright.now rows.entry.flat.now result }
+    {
+        let in_use = self.in_use();
+        let mut link = self.forms[bucket(self.forms.len(), rows)].head;
+        while let Some(k) = link {
+            if is_row(in_use, k, rows) {
+                return Some(k);
+            }
+            link = self.forms[k as usize].next;
+        }
+        None
+    }
+
+    // Adds a form with these two rows as the next one, and gives its number.
+    pub fn add(&mut self, rows: Rows) -> u16
+        requires table { IsTable self.old }
+        requires room { self.old.used < length self.old.forms.now }
+        requires fresh { Fresh (in_use self.old) self.old.options.now rows.upright.now rows.flat.now }
+        ensures number { result ≡ self.old.used }
+        ensures used { self.new.used ≡ self.old.used + 1 }
+        ensures table { IsTable self.new }
+        ensures kept { Kept (in_use self.old) self.old.options.now (in_use self.new) self.new.options.now }
+        ensures row { IsRow (in_use self.new) self.new.options.now rows.entry.upright.now rows.entry.flat.now result }
+        ensures same { SameRows self.old self.new }
+    {
+        let k = self.used;
+        let n = k as usize;
+        let place = &mut self.options[32 * n..32 * n + 32];
+        write_row(place, rows);
+        let bucket = bucket(self.forms.len(), rows);
+        let next = self.forms[bucket].head;
+        self.forms[bucket].head = Some(k);
+        let head = self.forms[n].head;
+        self.forms[n] = Form {
+            upright: rows.upright.len() as u8,
+            flat: rows.flat.len() as u8,
+            head,
+            next,
+        };
+        self.used = k + 1;
+        k
+    }
+
+    // Empties the table but for form 0, the empty game.
+    pub fn clear(&mut self)
+        requires { IsTable self.old }
+        ensures table { IsTable self.new }
+        ensures used { self.new.used ≡ 1 }
+        ensures same { SameRows self.old self.new }
+    {
+        self.used = begin(self.forms);
+    }
 }
 
 // Does form k have these two rows.
-fn is_row(forms: &[Form], options: &[u16], k: u16, upright: &[u16], flat: &[u16]) -> bool
-    requires sound { Sound forms.now options.now }
-    requires known { k < length forms.now }
-    ensures { Decides result (IsRow forms.now options.now upright.now flat.now k) }
+fn is_row(forms: Forms, k: u16, rows: Rows) -> bool
+    requires sound { IsSound forms }
+    requires known { k < length forms.forms.now }
+    ensures { Decides result (IsRow forms.entry.forms.now forms.entry.options.now rows.entry.upright.now rows.entry.flat.now k) }
 {
-    row(forms, options, true, k) == upright && row(forms, options, false, k) == flat
+    forms.row(Side::Upright, k) == rows.upright && forms.row(Side::Flat, k) == rows.flat
 }
 
 // The bucket of two rows.
-fn bucket(size: usize, upright: &[u16], flat: &[u16]) -> usize
+fn bucket(size: usize, rows: Rows) -> usize
     requires { 0 < size }
-    ensures value { result ≡ bucket_of size upright.now flat.now }
+    ensures value { result ≡ bucket_of size rows.entry.upright.now rows.entry.flat.now }
     ensures bound { result < size }
 {
-    mix(mix((upright.len() % 65521) as u32, upright), flat) as usize % size
+    let start = (rows.upright.len() % 65521) as u32;
+    mix(mix(start, rows.upright), rows.flat) as usize % size
 }
 
 // A row mixed into a number.
@@ -61,40 +131,16 @@ fn mix(start: u32, row: &[u16]) -> u32
     sum
 }
 
-// Adds a form with these two rows as the next one.
-pub fn add(forms: &mut [Form], options: &mut [u16], used: u16, upright: &[u16], flat: &[u16])
-    requires table { Table forms.old options.old used }
-    requires room { used < length forms.old }
-    requires fresh { Fresh (take used forms.old) options.old upright.now flat.now }
-    ensures table { Table forms.new options.new (used + 1) }
-    ensures kept { Kept (take used forms.old) options.old (take (used + 1) forms.new) options.new }
-    ensures rows { IsRow (take (used + 1) forms.new) options.new upright.now flat.now used }
-{
-    let n = used as usize;
-    let place = &mut options[32 * n..32 * n + 32];
-    write_row(place, upright, flat);
-    let bucket = bucket(forms.len(), upright, flat);
-    let next = forms[bucket].head;
-    forms[bucket].head = used + 1;
-    let head = forms[n].head;
-    forms[n] = Form {
-        upright: upright.len() as u8,
-        flat: flat.len() as u8,
-        head,
-        next,
-    };
-}
-
 // Writes two rows into the 32 places of a form.
-fn write_row(place: &mut [u16], upright: &[u16], flat: &[u16])
+fn write_row(place: &mut [u16], rows: Rows)
     requires long { length place.old ≡ 32 }
-    requires few_upright { length upright.now ≤ 16 }
-    requires few_flat { length flat.now ≤ 16 }
-    ensures upright { take (length upright.now) place.new ≡ upright.now }
-    ensures flat { take (length flat.now) (drop 16 place.new) ≡ flat.now }
+    requires few_upright { length rows.upright.now ≤ 16 }
+    requires few_flat { length rows.flat.now ≤ 16 }
+    ensures upright { take (length rows.entry.upright.now) place.new ≡ rows.entry.upright.now }
+    ensures flat { take (length rows.entry.flat.now) (drop 16 place.new) ≡ rows.entry.flat.now }
 {
-    place[..upright.len()].copy_from_slice(upright);
-    place[16..16 + flat.len()].copy_from_slice(flat);
+    place[..rows.upright.len()].copy_from_slice(rows.upright);
+    place[16..16 + rows.flat.len()].copy_from_slice(rows.flat);
 }
 
 // Begins a table in these rows: one form, the empty game. None where they have no room for it, or for the options of all their forms, or are too many.
@@ -104,22 +150,21 @@ pub fn start(forms: &mut [Form], options: &[u16]) -> Option<u16>
     if forms.is_empty() || forms.len() > 16384 || options.len() < 32 * forms.len() {
         return None;
     }
-    clear(forms);
-    let bucket = bucket(forms.len(), &[], &[]);
-    forms[bucket].head = 1;
-    Some(1)
+    Some(begin(forms))
 }
 
-// Empties all forms and links.
-fn clear(forms: &mut [Form])
-    ensures { (k : ℕ) → slice_index_or forms.new k blank ≡ blank }
+// Empties all forms and links, and begins with form 0, the empty game: how many forms are in use then.
+fn begin(forms: &mut [Form]) -> u16
+    requires some { 0 < length forms.old }
+    requires few { length forms.old ≤ 16384 }
+    ensures { Begun forms.new result }
 {
-    for form in forms.iter_mut() {
-        *form = Form {
-            upright: 0,
-            flat: 0,
-            head: 0,
-            next: 0,
-        };
-    }
+    forms.fill(BLANK);
+    let none = Rows {
+        upright: &[],
+        flat: &[],
+    };
+    let bucket = bucket(forms.len(), none);
+    forms[bucket].head = Some(0);
+    1
 }

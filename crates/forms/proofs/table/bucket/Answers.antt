@@ -6,6 +6,6 @@ pub returns : goal.returns
 unfolding bucket_of
 returns c =
     record {
-      value = ap (λ h. h % c.args.size) (c.mix-2.ensures.value ∙ ap (λ h. mixed h c.args.flat.now) c.mix.ensures.value);
+      value = ap (λ h. h % c.args.size) (c.mix-2.ensures.value ∙ ap (λ h. mixed h c.args.rows.flat.now) c.mix.ensures.value);
       bound = mod-lt _ c.requires;
     }
