@@ -1,9 +1,11 @@
 -- A number put into a rising row.
-use Rattle.std.proofs.Common.{◌≡◌, ℕ, zero, suc, ◌+◌, ◌<◌, ◌≤◌, ◌⊎◌, List, [], ◌∷◌, ◌++◌, length, get_or, take, drop, sym, ◌∙◌, subst, inl, inr, arith}
+use Rattle.std.proofs.Common.{◌≡◌, ℕ, zero, suc, ◌+◌, ◌<◌, ◌≤◌, ◌⊎◌, List, [], ◌∷◌, ◌++◌, length, get_or, take, drop, Result, MatchResult, sym, subst, inl, inr, arith}
 use Rattle.std.specs.List.{ContainsAt as Has, AllByRecursion as Every}
-use Rattle.std.proofs.lemmas.List.{take-append-drop, take_all, drop_more, drop_all}
-use Rattle.std.proofs.ByRecursion.{All-append, All-take, All-weaker, has_get_or, has_append_left, has_append_right}
-use Rattle.std.proofs.lemmas.Bool.{cases_lt}
+use Rattle.std.specs.List.Sorted.{IsBinarySearchResult}
+use Rattle.std.specs.Ordering.{nat_cmp}
+use Rattle.std.proofs.lemmas.List.{take-append-drop, get_or-take, get_or-drop, length-take-le, length-drop}
+use Rattle.std.proofs.lemmas.List.Sorted.{searched}
+use Rattle.std.proofs.ByRecursion.{All-append, All-take, All-weaker, All-get_or, All-from_get_or, has_get_or, has_append_left, has_append_right}
 use Rattle.forms.specs.Rows.{Rising}
 use Rattle.forms.proofs.Risings.{has_here, has_there, has_cases}
 use Rattle.canonical.specs.Reducing.{Inserted}
@@ -40,28 +42,36 @@ has_drop n xs w h = subst (λ l. Has l w) (take-append-drop n xs) (has_append_ri
 pub has_split : (n : ℕ) (xs : List ℕ) (w : ℕ) → Has xs w → Has (take n xs) w ⊎ Has (drop n xs) w
 has_split n xs w h = has_append_cases (take n xs) (drop n xs) w (subst (λ l. Has l w) (sym (take-append-drop n xs)) h)
 
--- what holds of the first n numbers holds of all that there are
-pub all_end : (P : ℕ → Type 0) (xs : List ℕ) (n : ℕ) → length xs ≤ n → Every P (take n xs) → Every P (take (length xs) xs)
-all_end P xs n h all = subst (Every P) (take_all n xs h ∙ sym (take_all (length xs) xs (omega arith))) all
+-- later numbers of a rising row are no lower
+pub rising_more : (xs : List ℕ) → Rising xs → (i j : ℕ) → i ≤ j → j < length xs → get_or xs i 0 ≤ get_or xs j 0
+rising_more [] up i j le h = absurd (omega arith)
+rising_more (x ∷ xs) up zero zero le h = omega arith
+rising_more (x ∷ xs) up zero (suc j) le h = let low = All-get_or (λ y. x < y) xs j 0 (omega arith) up.0 in omega arith
+rising_more (x ∷ xs) up (suc i) zero le h = absurd (omega arith)
+rising_more (x ∷ xs) up (suc i) (suc j) le h = rising_more xs up.1 i j (omega arith) (omega arith)
+
+-- what a search in a rising row finds: where the number stands; or where it belongs, after the lower ones and before the higher ones
+pub looked_up : (row held : List ℕ) (x : ℕ) (r : Result ℕ ℕ) → held ≡ row → Rising row → IsBinarySearchResult (λ y. nat_cmp y x) held r →
+    MatchResult r (λ i. (i < length row) × (get_or row i 0 ≡ x)) (λ i. (i ≤ length row) × ((k : ℕ) → k < i → get_or row k 0 < x) × ((k : ℕ) → i ≤ k → k < length row → x < get_or row k 0))
+looked_up row held x r same up h = searched row x r (subst (λ l. IsBinarySearchResult (λ y. nat_cmp y x) l r) same h) (rising_more row up)
 
 -- the row has the number already
-pub already : (row : List ℕ) (x i : ℕ) → Rising row → (held : List ℕ) → held ≡ row → i < length held → get_or held i 0 ≡ x → Inserted row x row
-already row x i up held same h e = let e : get_or row i 0 ≡ x = subst (λ l. get_or l i 0 ≡ x) same e in let h : i < length row = subst (λ l. i < length l) same h in record { rising = up; stays = λ w k. k; has = subst (Has row) e (has_get_or row i 0 h); only = λ w k. inl k }
+pub already : (row : List ℕ) (x i : ℕ) → Rising row → (i < length row) × (get_or row i 0 ≡ x) → Inserted row x row
+already row x i up found = record { rising = up; stays = λ w k. k; has = subst (Has row) found.1 (has_get_or row i 0 found.0); only = λ w k. inl k }
 
--- the number goes in after i lower ones
+-- the number goes in after i lower ones and before the higher ones
 module _
-    (row : List ℕ) (x i : ℕ) (up : Rising row) (before : Every (λ y. y < x) (take i row)) (after : i < length row → x ≤ get_or row i 0)
-    (other : i < length row → get_or row i 0 ≡ x → ⊥) where
+    (row : List ℕ) (x i : ℕ) (up : Rising row)
+    (gap : (i ≤ length row) × ((k : ℕ) → k < i → get_or row k 0 < x) × ((k : ℕ) → i ≤ k → k < length row → x < get_or row k 0)) where
+  before : Every (λ y. y < x) (take i row)
+  before =
+      All-from_get_or (λ y. y < x) (take i row) 0
+      (λ k h. let l = length-take-le i row gap.0 in subst (λ a. a < x) (sym (get_or-take i row k 0 (omega arith))) (gap.1 k (omega arith)))
+
   above : Every (λ y. x < y) (drop i row)
-  above = go (cases_lt i (length row))
-    where
-      go : (i < length row) ⊎ (length row ≤ i) → Every (λ y. x < y) (drop i row)
-      go (inr h) = subst (Every (λ y. x < y)) (sym (drop_all i row h)) tt
-      go (inl h) =
-          let e = drop_more row i 0 h in
-          let more : x < get_or row i 0 = let a = after h in let ne = other h in elim (cases_lt x (get_or row i 0)) [ inl l ↦ l | inr l ↦ absurd (ne (let eq : get_or row i 0 ≡ x = omega arith in eq)) ] in
-          let rest = subst Rising e (rising_drop i row up) in
-          subst (Every (λ y. x < y)) (sym e) (more, All-weaker (λ y. get_or row i 0 < y) (λ y. x < y) (λ y l. omega arith) (drop (i + 1) row) rest.0)
+  above =
+      All-from_get_or (λ y. x < y) (drop i row) 0
+      (λ k h. let l = length-drop i row in subst (λ a. x < a) (sym (get_or-drop i row k 0)) (gap.2 (i + k) (omega arith) (omega arith)))
 
   pub put_in : (new : List ℕ) → new ≡ take i row ++ x ∷ drop i row → Inserted row x new
   put_in new e =

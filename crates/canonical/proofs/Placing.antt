@@ -11,18 +11,19 @@ use Rattle.games.proofs.Sides.{equal_refl, equal_sym, equal_trans}
 use Rattle.games.proofs.Forms.{matched}
 use Rattle.games.proofs.Counting.{not_wide}
 use Rattle.forms.specs.declared.rows.Form.{Form}
+use Rattle.forms.specs.declared.table.Table.{Table as Lent}
 use Rattle.forms.specs.Rows.{Rising, row_of, row_for}
 use Rattle.forms.specs.Meaning.{listed, meaning, given}
 use Rattle.forms.specs.Soundness.{Sound, Known}
 use Rattle.forms.specs.Links.{Table}
 use Rattle.forms.specs.Growth.{IsRow, Absent, Fresh, Kept}
+use Rattle.forms.specs.Values.{IsTable, in_use, game_in}
 use Rattle.forms.proofs.Risings.{rising_same}
 use Rattle.forms.proofs.Meanings.{listed_same, meaning_rows, in_row, from_row}
 use Rattle.forms.proofs.Numbers.{same_number}
 use Rattle.forms.proofs.Chains.{use_length}
 use Rattle.forms.proofs.Growing.{kept_refl}
 use Rattle.forms.proofs.Givens.{given_options, in_given, from_given}
-use Rattle.canonical.specs.declared.canonical.Placed.{Placed}
 use Rattle.canonical.specs.declared.canonical.Refusal.{Refusal}
 use Rattle.canonical.specs.declared.canonical.Refusal.TheVariants.{Full, Wide as TooWide, NoMemory}
 use Rattle.canonical.specs.Reducing.{Reduction}
@@ -121,8 +122,8 @@ given_kept fs os gs ps us ls kept known =
     ∙ sym (given_options fs os us ls s))
 
 -- what is answered for a game is answered for an equal one
-pub outcome_equal : (fs : List Form) (os : List ℕ) (n : ℕ) (gs : List Form) (ps : List ℕ) (g h : Game) → Equal g h → (r : Result Placed Refusal) → Outcome fs os n gs ps h r → Outcome fs os n gs ps g r
-outcome_equal fs os n gs ps g h e (Ok a) o =
+pub outcome_equal : (t u : Lent) (g h : Game) → Equal g h → (r : Result ℕ Refusal) → Outcome t u h r → Outcome t u g r
+outcome_equal t u g h e (Ok k) o =
     record {
       table = o.table;
       known = o.known;
@@ -131,9 +132,9 @@ outcome_equal fs os n gs ps g h e (Ok a) o =
       new = o.new;
       narrow = λ (f, c, q, w). o.narrow (f, c, equal_trans (equal_sym e) q, w);
     }
-outcome_equal fs os n gs ps g h e (Err Full) o = (o.0, o.1, (o.2.0, λ k l q. o.2.1 k l (equal_trans q e), λ w. o.2.2 (w.0, w.1, equal_trans (equal_sym e) w.2, w.3)))
-outcome_equal fs os n gs ps g h e (Err TooWide) o = (o.0, o.1, (o.2.0, o.2.1, equal_trans e o.2.2, o.2.3))
-outcome_equal fs os n gs ps g h e (Err NoMemory) o = o
+outcome_equal t u g h e (Err Full) o = (o.0, o.1, o.2, (o.3.0, λ k l q. o.3.1 k l (equal_trans q e), λ w. o.3.2 (w.0, w.1, equal_trans (equal_sym e) w.2, w.3)))
+outcome_equal t u g h e (Err TooWide) o = (o.0, o.1, o.2, (o.3.0, o.3.1, equal_trans e o.3.2, o.3.3))
+outcome_equal t u g h e (Err NoMemory) o = o
 
 -- a bound of both rows
 pub few_both : (us ls : List ℕ) → length us ≤ 16 → length ls ≤ 16 → (s : Side) → length (row_for s us ls) ≤ 16
@@ -168,15 +169,17 @@ module _ (fs : List Form) (os : List ℕ) (n : ℕ) (t : Table fs os n) (us ls :
       pub fresh : Fresh (take n fs) os us ls
       fresh = record { few = few; known = red.known; rising = red.rising; canonical = red.canonical; absent = absent }
 
-    pub placed_new : (gs : List Form) (ps : List ℕ) → Table gs ps (n + 1) → Kept (take n fs) os (take (n + 1) gs) ps → IsRow (take (n + 1) gs) ps us ls n → Answered fs os n gs ps (given (take n fs) os us ls) n (n + 1)
-    placed_new gs ps table kept is =
-        let low : n < length (take (n + 1) gs) = subst (λ m. n < m) (sym (use_length gs ps (n + 1) table)) (omega arith) in
-        let same = is_given (take (n + 1) gs) ps table.sound us ls n low is ∙ given_kept (take n fs) os (take (n + 1) gs) ps us ls kept red.known in
+    pub placed_new : (u : Lent) (k : ℕ) → k ≡ n → u.used ≡ n + 1 → IsTable u → Kept (take n fs) os (in_use u) u.options.now → IsRow (in_use u) u.options.now us ls k →
+        Answered fs os n u.forms.now u.options.now (given (take n fs) os us ls) k u.used
+    placed_new u k at more table kept is =
+        let below : k < u.used = omega arith in
+        let low : k < length (in_use u) = subst (λ m. k < m) (sym (use_length u.forms.now u.options.now u.used table)) below in
+        let same = is_given (in_use u) u.options.now table.sound us ls k low is ∙ given_kept (take n fs) os (in_use u) u.options.now us ls kept red.known in
         record {
           table = table;
-          known = omega arith;
-          equal = subst (Equal (meaning (take (n + 1) gs) ps n)) same (equal_refl (meaning (take (n + 1) gs) ps n));
+          known = below;
+          equal = subst (Equal (game_in u k)) same (equal_refl (game_in u k));
           kept = kept;
-          new = inr (refl, refl);
+          new = inr (more, at);
           narrow = narrow (take n fs) os t.sound us ls red few;
         }

@@ -5,10 +5,10 @@ use Rattle.games.specs.Order.{Equal}
 use Rattle.games.specs.Canonical.{Canonical}
 use Rattle.games.specs.Count.{Wide}
 use Rattle.forms.specs.declared.rows.Form.{Form}
+use Rattle.forms.specs.declared.table.Table.{Table as Lent}
 use Rattle.forms.specs.Meaning.{meaning}
 use Rattle.forms.specs.Links.{Table}
 use Rattle.forms.specs.Growth.{Kept}
-use Rattle.canonical.specs.declared.canonical.Placed.{Placed}
 use Rattle.canonical.specs.declared.canonical.Refusal.{Refusal}
 use Rattle.canonical.specs.declared.canonical.Refusal.TheVariants.{Full, Wide as TooWide, NoMemory}
 
@@ -32,6 +32,6 @@ Refused fs os n g TooWide = IsTooWide g
 Refused fs os n g NoMemory = Unit {0}
 
 -- an answer, or a refusal that leaves all as it was
-abbrev pub Outcome : List Form → List ℕ → ℕ → List Form → List ℕ → Game → Result Placed Refusal → Type 0
-Outcome fs os n gs ps g (Ok a) = Answered fs os n gs ps g a.form a.used
-Outcome fs os n gs ps g (Err e) = (gs ≡ fs) × (ps ≡ os) × Refused fs os n g e
+abbrev pub Outcome : Lent → Lent → Game → Result ℕ Refusal → Type 0
+Outcome t u g (Ok k) = Answered t.forms.now t.options.now t.used u.forms.now u.options.now g k u.used
+Outcome t u g (Err e) = (u.forms.now ≡ t.forms.now) × (u.options.now ≡ t.options.now) × (u.used ≡ t.used) × Refused t.forms.now t.options.now t.used g e

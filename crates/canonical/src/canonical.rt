@@ -1,24 +1,17 @@
 // The canonical form of a game that is given by two rows of forms, found in the table or added to it.
-ghost use Rattle.std.specs.Prelude.{◌<◌, true, false, length, take, IfOk};
-ghost use Rattle.forms.specs.Meaning.{given};
-ghost use Rattle.forms.specs.Soundness.{Sound};
-ghost use Rattle.forms.specs.Links.{Table};
+ghost use Rattle.std.specs.Prelude.{◌≡◌, IfOk};
+ghost use Rattle.board.specs.Values.{side_of};
+ghost use Rattle.forms.specs.Values.{IsSound, IsTable, SameRows, in_use, game_by, game_from};
 ghost use Rattle.canonical.specs.Compares.{BothKnown};
 ghost use Rattle.canonical.specs.Reducing.{Reduced, Reduction};
 ghost use Rattle.canonical.specs.Answers.{Outcome};
 
 use crate::keep::bypass;
 use crate::thin::thin;
-use forms::rows::Form;
-use forms::table::{add, find};
+use board::side::Side;
+use forms::rows::{Forms, Rows};
+use forms::table::Table;
 use std::alloc::{AllocError, Global};
-
-// A form's number, and how many forms are in use.
-#[derive(Clone, Copy, Drop)]
-pub struct Placed {
-    pub form: u16,
-    pub used: u16,
-}
 
 // Why a game has no form here: the table is full, the form has more than 16 options for a player, or memory is wanting.
 #[derive(Clone, Copy, Drop)]
@@ -28,69 +21,57 @@ pub enum Refusal {
     NoMemory,
 }
 
-// The canonical form of the game as given.
-pub fn canonical(
-    heap: Global,
-    forms: &mut [Form],
-    options: &mut [u16],
-    used: u16,
-    upright: &[u16],
-    flat: &[u16],
-) -> Result<Placed, Refusal>
-    requires table { Table forms.old options.old used }
-    requires rows { BothKnown (take used forms.old) upright.now flat.now }
-    ensures { Outcome forms.old options.old used forms.new options.new (given (take used forms.old) options.old upright.now flat.now) result }
-{
-    let Ok(uprights) = reduce(heap, &forms[..used as usize], options, true, upright, flat) else {
-        return Err(Refusal::NoMemory);
-    };
-    let Ok(flats) = reduce(heap, &forms[..used as usize], options, false, upright, flat) else {
-        return Err(Refusal::NoMemory);
-    };
-    place(forms, options, used, uprights.as_slice(), flats.as_slice())
+impl From<AllocError> for Refusal {
+    ghost use Rattle.canonical.specs.declared.canonical.Refusal.TheVariants.{NoMemory};
+
+    ghost from_gives = { λ _ e. e ≡ NoMemory };
+
+    fn from(_: AllocError) -> Refusal {
+        Refusal::NoMemory
+    }
 }
 
-// The options of a side in the canonical form of the game as given.
-fn reduce(
-    heap: Global,
-    forms: &[Form],
-    options: &[u16],
-    side: bool,
-    upright: &[u16],
-    flat: &[u16],
-) -> Result<Vec<u16>, AllocError>
-    requires sound { Sound forms.now options.now }
-    requires rows { BothKnown forms.now upright.now flat.now }
-    ensures { IfOk result (λ v. Reduced forms.now options.now side (given forms.now options.now upright.now flat.now) v.items) }
+// The canonical form of the game that two rows of forms give.
+pub fn canonical(heap: Global, table: &mut Table, rows: Rows) -> Result<u16, Refusal>
+    requires table { IsTable table.old }
+    requires rows { BothKnown (in_use table.old) rows.upright.now rows.flat.now }
+    ensures answer { Outcome table.old table.new (game_from table.old rows.entry) result }
+    ensures same { SameRows table.old table.new }
 {
-    let firm = bypass(heap, forms, options, side, upright, flat)?;
-    thin(heap, forms, options, side, firm.as_slice())
+    let upright = reduce(heap, table.in_use(), Side::Upright, rows)?;
+    let flat = reduce(heap, table.in_use(), Side::Flat, rows)?;
+    let reduced = Rows {
+        upright: upright.as_slice(),
+        flat: flat.as_slice(),
+    };
+    place(table, reduced)
+}
+
+// The options of a side in the canonical form of that game.
+fn reduce(heap: Global, forms: Forms, side: Side, rows: Rows) -> Result<Vec<u16>, AllocError>
+    requires sound { IsSound forms }
+    requires rows { BothKnown forms.forms.now rows.upright.now rows.flat.now }
+    ensures { IfOk result (λ v. Reduced forms.entry.forms.now forms.entry.options.now (side_of side) (game_by forms.entry rows.entry) v.items) }
+{
+    let firm = bypass(heap, forms, side, rows)?;
+    thin(heap, forms, side, firm.as_slice())
 }
 
 // The form with these rows, which are those of a canonical game.
-fn place(
-    forms: &mut [Form],
-    options: &mut [u16],
-    used: u16,
-    upright: &[u16],
-    flat: &[u16],
-) -> Result<Placed, Refusal>
-    requires table { Table forms.old options.old used }
-    requires reduced { Reduction (take used forms.old) options.old upright.now flat.now }
-    ensures { Outcome forms.old options.old used forms.new options.new (given (take used forms.old) options.old upright.now flat.now) result }
+fn place(table: &mut Table, rows: Rows) -> Result<u16, Refusal>
+    requires table { IsTable table.old }
+    requires reduced { Reduction (in_use table.old) table.old.options.now rows.upright.now rows.flat.now }
+    ensures answer { Outcome table.old table.new (game_from table.old rows.entry) result }
+    ensures same { SameRows table.old table.new }
 {
-    if upright.len() > 16 || flat.len() > 16 {
+    if rows.upright.len() > 16 || rows.flat.len() > 16 {
         return Err(Refusal::Wide);
     }
-    if let Some(form) = find(forms, options, used, upright, flat) {
-        return Ok(Placed { form, used });
+    if let Some(form) = table.find(rows) {
+        return Ok(form);
     }
-    if used as usize == forms.len() {
+    if table.used as usize == table.forms.len() {
         return Err(Refusal::Full);
     }
-    add(forms, options, used, upright, flat);
-    Ok(Placed {
-        form: used,
-        used: used + 1,
-    })
+    Ok(table.add(rows))
 }

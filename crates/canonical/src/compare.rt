@@ -1,80 +1,57 @@
 // Forms compared with each other, and with a game that is given by two rows and has no form yet.
 ghost use Rattle.std.specs.Prelude.{◌≡◌, ◌<◌, length};
-ghost use Rattle.forms.specs.Rows.{row_for};
-ghost use Rattle.forms.specs.Meaning.{meaning, given};
-ghost use Rattle.forms.specs.Soundness.{Sound};
+ghost use Rattle.board.specs.Values.{side_of};
+ghost use Rattle.forms.specs.Values.{IsSound, game_of, game_by};
 ghost use Rattle.canonical.specs.Compares.{Tells, BothKnown, Reply};
 
-use forms::order::at_most;
-use forms::rows::{Form, row};
+use board::side::Side;
+use forms::rows::{Forms, Rows};
 
 // Is form g no better than form h for a side.
-pub fn worse(forms: &[Form], options: &[u16], side: bool, g: u16, h: u16) -> bool
-    requires sound { Sound forms.now options.now }
-    requires first { g < length forms.now }
-    requires second { h < length forms.now }
-    ensures { Tells result side (meaning forms.now options.now g) (meaning forms.now options.now h) }
+pub fn worse(forms: Forms, side: Side, g: u16, h: u16) -> bool
+    requires sound { IsSound forms }
+    requires first { g < length forms.forms.now }
+    requires second { h < length forms.forms.now }
+    ensures { Tells result (side_of side) (game_of forms.entry g) (game_of forms.entry h) }
 {
-    if side {
-        at_most(forms, options, g, h)
-    } else {
-        at_most(forms, options, h, g)
+    match side {
+        Side::Upright => forms.at_most(g, h),
+        Side::Flat => forms.at_most(h, g),
     }
 }
 
-// Of two rows that of a side.
-pub(crate) fn of_side<'a>(side: bool, upright: &'a [u16], flat: &'a [u16]) -> &'a [u16]
-    ensures { result.now ≡ row_for side upright.now flat.now }
+// Is form k no better for a side than the game that two rows give.
+pub fn within(forms: Forms, side: Side, k: u16, rows: Rows) -> bool
+    requires sound { IsSound forms }
+    requires known { k < length forms.forms.now }
+    requires rows { BothKnown forms.forms.now rows.upright.now rows.flat.now }
+    ensures { Tells result (side_of side) (game_of forms.entry k) (game_by forms.entry rows.entry) }
 {
-    if side { upright } else { flat }
-}
-
-// Is form k no better for a side than the game as given.
-pub fn within(
-    forms: &[Form],
-    options: &[u16],
-    side: bool,
-    k: u16,
-    upright: &[u16],
-    flat: &[u16],
-) -> bool
-    requires sound { Sound forms.now options.now }
-    requires known { k < length forms.now }
-    requires rows { BothKnown forms.now upright.now flat.now }
-    ensures { Tells result side (meaning forms.now options.now k) (given forms.now options.now upright.now flat.now) }
-{
-    let own = row(forms, options, side, k);
+    let own = forms.row(side, k);
     for x in own {
-        if within(forms, options, !side, *x, upright, flat) {
+        if within(forms, side.other(), *x, rows) {
             return false;
         }
     }
-    let replies = of_side(!side, upright, flat);
+    let replies = rows.of(side.other());
     for y in replies {
-        if worse(forms, options, side, *y, k) {
+        if worse(forms, side, *y, k) {
             return false;
         }
     }
     true
 }
 
-// A reply of the other side to form x that is no better than the game as given, so that x is reversible in it.
-pub fn reply(
-    forms: &[Form],
-    options: &[u16],
-    side: bool,
-    x: u16,
-    upright: &[u16],
-    flat: &[u16],
-) -> Option<u16>
-    requires sound { Sound forms.now options.now }
-    requires known { x < length forms.now }
-    requires rows { BothKnown forms.now upright.now flat.now }
-    ensures { Reply forms.now options.now side x (given forms.now options.now upright.now flat.now) result }
+// A reply of the other side to form x that is no better than the game that two rows give, so that x is reversible in it.
+pub fn reply(forms: Forms, side: Side, x: u16, rows: Rows) -> Option<u16>
+    requires sound { IsSound forms }
+    requires known { x < length forms.forms.now }
+    requires rows { BothKnown forms.forms.now rows.upright.now rows.flat.now }
+    ensures { Reply forms.entry.forms.now forms.entry.options.now (side_of side) x (game_by forms.entry rows.entry) result }
 {
-    let replies = row(forms, options, !side, x);
+    let replies = forms.row(side.other(), x);
     for y in replies {
-        if within(forms, options, side, *y, upright, flat) {
+        if within(forms, side, *y, rows) {
             return Some(*y);
         }
     }

@@ -1,6 +1,5 @@
 // Rows of numbers that rise.
-ghost use Rattle.std.specs.Prelude.{◌<◌, ◌≤◌, length, take, OnOk, slice_index};
-ghost use Rattle.std.specs.List.{AllByRecursion as Every};
+ghost use Rattle.std.specs.Prelude.{OnOk};
 ghost use Rattle.forms.specs.Rows.{Rising};
 ghost use Rattle.canonical.specs.Reducing.{Inserted};
 
@@ -11,25 +10,8 @@ pub fn insert(row: &mut Vec<u16>, x: u16) -> Result<(), AllocError>
     requires rising { Rising row.old.items }
     ensures { OnOk result (Inserted row.old.items x row.new.items) }
 {
-    let held = row.as_slice();
-    let at = count_below(held, x);
-    if at < held.len() && held[at] == x {
-        return Ok(());
+    if let Err(at) = row.as_slice().binary_search(&x) {
+        row.insert(at, x)?;
     }
-    row.insert(at, x)?;
     Ok(())
-}
-
-// How many numbers at the start of a row are below x.
-fn count_below(row: &[u16], x: u16) -> usize
-    ensures within { result ≤ length row.now }
-    ensures before { Every (λ y. y < x) (take result row.now) }
-    ensures after { result < length row.now → x ≤ slice_index row.now result }
-{
-    for (i, y) in row.iter().enumerate() {
-        if *y >= x {
-            return i;
-        }
-    }
-    row.len()
 }

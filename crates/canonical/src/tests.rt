@@ -1,11 +1,11 @@
 // Small games by hand: each line gives two rows of forms, and the number of the form that they come to.
 ghost use Rattle.std.specs.Prelude.{◌≡◌, ◌<◌, true, IfOk};
 ghost use Rattle.std.specs.List.{AllByRecursion as Every};
-ghost use Rattle.forms.specs.Links.{Table};
+ghost use Rattle.forms.specs.Values.{IsTable};
 
-use crate::canonical::{Placed, canonical};
-use forms::rows::Form;
-use forms::table::start;
+use crate::canonical::canonical;
+use forms::rows::{BLANK, Form, Rows};
+use forms::table::Table;
 use std::alloc::Global;
 use std::process::Abort;
 use std::test::Fail;
@@ -84,39 +84,30 @@ const CASES: [Case; 11] = [
 
 // Begins a table and asks for the form of every case.
 fn run(rt: &impl Abort, heap: Global, forms: &mut [Form], options: &mut [u16]) -> Result<(), Fail> {
-    let Some(first) = start(forms, options) else {
+    let Some(mut table) = Table::new(forms, options) else {
         return Err(Fail::new("no room for a table"));
     };
-    let mut used = first;
     for case in CASES {
-        let placed = place(heap, forms, options, used, case.upright, case.flat)?;
-        assert_eq!(rt; placed.form, case.form);
-        used = placed.used;
+        let rows = Rows {
+            upright: case.upright,
+            flat: case.flat,
+        };
+        assert_eq!(rt; place(heap, &mut table, rows)?, case.form);
     }
-    assert_eq!(rt; used, 8);
+    assert_eq!(rt; table.used, 8);
     Ok(())
 }
 
 // The form of the game with these rows, if they name forms in use.
-fn place(
-    heap: Global,
-    forms: &mut [Form],
-    options: &mut [u16],
-    used: u16,
-    upright: &[u16],
-    flat: &[u16],
-) -> Result<Placed, Fail>
-    requires table { Table forms.old options.old used }
-    ensures { IfOk result (λ a. Table forms.new options.new a.used) }
+fn place(heap: Global, table: &mut Table, rows: Rows) -> Result<u16, Fail>
+    requires { IsTable table.old }
+    ensures { IfOk result (λ _. IsTable table.new) }
 {
-    if !are_below(upright, used) {
+    if !are_below(rows.upright, table.used) || !are_below(rows.flat, table.used) {
         return Err(Fail::new("no such form"));
     }
-    if !are_below(flat, used) {
-        return Err(Fail::new("no such form"));
-    }
-    match canonical(heap, forms, options, used, upright, flat) {
-        Ok(placed) => Ok(placed),
+    match canonical(heap, table, rows) {
+        Ok(form) => Ok(form),
         Err(_) => Err(Fail::new("refused")),
     }
 }
@@ -125,23 +116,12 @@ fn place(
 fn are_below(row: &[u16], bound: u16) -> bool
     ensures { result ≡ true → Every (λ x. x < bound) row.now }
 {
-    for x in row {
-        if *x >= bound {
-            return false;
-        }
-    }
-    true
+    row.iter().all(|x| *x < bound)
 }
 
 #[test]
 fn small_games(rt: HostRuntime) -> Result<(), Fail> {
-    let blank = Form {
-        upright: 0,
-        flat: 0,
-        head: 0,
-        next: 0,
-    };
-    let mut forms = [blank; 16];
+    let mut forms = [BLANK; 16];
     let mut options = [0; 512];
     run(&rt, rt.alloc(), &mut forms, &mut options)
 }

@@ -23,3 +23,7 @@ part_within fs os false k sound h = omega (arith, sound.few false k h)
 -- the numbers of a row are below its owner
 pub option_below : (fs : List Form) (os : List ℕ) (s : Side) (k : ℕ) → Sound fs os → k < length fs → (xs : List ℕ) → xs ≡ row_of fs os s k → (i : ℕ) → i < length xs → get_or xs i 0 < k
 option_below fs os s k sound h xs e i less = All-get_or (λ x. x < k) xs i 0 less (subst (Every (λ x. x < k)) (sym e) (sound.below s k h))
+
+-- what holds of forms as they are read holds of the rows that they are
+pub of_read : (P : List Form → List ℕ → Type 0) {fs gs : List Form} {os ps : List ℕ} → gs ≡ fs → ps ≡ os → P gs ps → P fs os
+of_read P {fs} {gs} {os} {ps} e f p = subst (P fs) f (subst (λ hs. P hs ps) e p)

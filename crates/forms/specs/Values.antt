@@ -27,6 +27,14 @@ game_by f r = given f.forms.now f.options.now r.upright.now r.flat.now
 abbrev pub in_use : Lent → List Form
 in_use t = take t.used t.forms.now
 
+-- the game of form k in use
+abbrev pub game_in : Lent → ℕ → Game
+game_in t k = meaning (in_use t) t.options.now k
+
+-- the game that two rows of forms in use give
+abbrev pub game_from : Lent → Rows → Game
+game_from t r = given (in_use t) t.options.now r.upright.now r.flat.now
+
 -- lent rows hold a table
 abbrev pub IsTable : Lent → Type 0
 IsTable t = Table t.forms.now t.options.now t.used

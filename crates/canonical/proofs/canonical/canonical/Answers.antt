@@ -1,31 +1,42 @@
-use Rattle.std.proofs.Common.{take, vec_items}
+use Rattle.std.proofs.Common.{true, false}
 use Rattle.forms.specs.Meaning.{given}
+use Rattle.forms.specs.Values.{in_use, game_from}
+use Rattle.forms.proofs.Places.{of_read}
+use Rattle.canonical.specs.Reducing.{Reduced}
 use Rattle.canonical.proofs.Reduces.{both_reduced, equal_reduced, reduction}
 use Rattle.canonical.proofs.Placing.{outcome_equal}
 use Rattle.canonical.proofs.canonical.canonical.Goals as goal
 
 pub place-requires : goal.place-requires
 place-requires c =
-    let fs = take c.args.used c.args.forms.now in
-    let os = c.args.options.now in
-    let g = given fs os c.args.upright.now c.args.flat.now in
+    let t = c.args.table.now in
+    let fs = in_use t in
+    let us = c.args.rows.upright.now in
+    let ls = c.args.rows.flat.now in
+    let g = game_from t c.args.rows in
+    let up = of_read (λ gs ps. Reduced gs ps true (given gs ps us ls) c.in_ok-upright.upright.items) c.in_use.ensures.forms c.in_use.ensures.options c.in_ok-upright.ensures in
+    let low = of_read (λ gs ps. Reduced gs ps false (given gs ps us ls) c.in_ok-flat.flat.items) c.in_use-2.ensures.forms c.in_use-2.ensures.options c.in_ok-flat.ensures in
     record {
       table = c.requires.table;
       reduced =
-          reduction fs os c.requires.table.sound g c.as_slice.result.now c.as_slice-2.result.now
-          (both_reduced fs os g c.as_slice.result.now c.as_slice-2.result.now (vec_items c.in-Ok.uprights) (vec_items c.in-Ok-reduce.flats)
-          c.as_slice.ensures.value c.as_slice-2.ensures.value c.in-Ok.ensures c.in-Ok-reduce.ensures);
+          reduction fs t.options.now c.requires.table.sound g c.as_slice.result.now c.as_slice-2.result.now
+          (both_reduced fs t.options.now g c.as_slice.result.now c.as_slice-2.result.now _ _ c.as_slice.ensures.value c.as_slice-2.ensures.value up low);
     }
 
 pub returns : goal.returns
 returns c =
-    let fs = take c.args.used c.args.forms.now in
-    let os = c.args.options.now in
-    let us = c.as_slice.result.now in
-    let ls = c.as_slice-2.result.now in
-    let g = given fs os c.args.upright.now c.args.flat.now in
-    outcome_equal c.args.forms.now os c.args.used c.place.new.forms c.place.new.options g (given fs os us ls)
-    (equal_reduced fs os c.requires.table.sound g us ls
-    (both_reduced fs os g us ls (vec_items c.in-Ok.uprights) (vec_items c.in-Ok-reduce.flats)
-    c.as_slice.ensures.value c.as_slice-2.ensures.value c.in-Ok.ensures c.in-Ok-reduce.ensures))
-    c.place.result c.place.ensures
+    let t = c.args.table.now in
+    let fs = in_use t in
+    let os = t.options.now in
+    let us = c.args.rows.upright.now in
+    let ls = c.args.rows.flat.now in
+    let g = game_from t c.args.rows in
+    let up = of_read (λ gs ps. Reduced gs ps true (given gs ps us ls) c.in_ok-upright.upright.items) c.in_use.ensures.forms c.in_use.ensures.options c.in_ok-upright.ensures in
+    let low = of_read (λ gs ps. Reduced gs ps false (given gs ps us ls) c.in_ok-flat.flat.items) c.in_use-2.ensures.forms c.in_use-2.ensures.options c.in_ok-flat.ensures in
+    record {
+      answer =
+          outcome_equal t c.place.new.table g (given fs os c.as_slice.result.now c.as_slice-2.result.now)
+          (equal_reduced fs os c.requires.table.sound g c.as_slice.result.now c.as_slice-2.result.now
+          (both_reduced fs os g c.as_slice.result.now c.as_slice-2.result.now _ _ c.as_slice.ensures.value c.as_slice-2.ensures.value up low)) c.place.result c.place.ensures.answer;
+      same = c.place.ensures.same;
+    }

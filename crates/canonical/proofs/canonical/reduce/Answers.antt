@@ -1,5 +1,6 @@
 use Rattle.std.proofs.Common.{◌<◌, length, vec_items, sym, subst}
 use Rattle.std.proofs.lemmas.Result.{IfOk-weaker}
+use Rattle.board.specs.Values.{side_of}
 use Rattle.forms.specs.Rows.{Rising}
 use Rattle.forms.specs.Meaning.{given}
 use Rattle.forms.specs.Soundness.{Known}
@@ -14,16 +15,16 @@ thin-requires c =
     let same = sym c.as_slice.ensures.value in
     record {
       sound = c.requires.sound;
-      known = subst (Known c.args.forms.now) same (all_from_has (λ w. w < length c.args.forms.now) _ b.fit.known);
+      known = subst (Known c.args.forms.forms.now) same (all_from_has (λ w. w < length c.args.forms.forms.now) _ b.fit.known);
       rising = subst Rising same b.fit.rising;
     }
 
 pub returns : goal.returns
 returns c =
-    let fs = c.args.forms.now in
-    let os = c.args.options.now in
-    let s = c.args.side in
-    let g = given fs os c.args.upright.now c.args.flat.now in
+    let fs = c.args.forms.forms.now in
+    let os = c.args.forms.options.now in
+    let s = (side_of c.args.side) in
+    let g = given fs os c.args.rows.upright.now c.args.rows.flat.now in
     let row = vec_items c.in_ok-firm.firm in
     IfOk-weaker c.thin.result (λ v. Thinned fs os s c.as_slice.result.now (vec_items v)) (λ v. Reduced fs os s g (vec_items v))
     (λ v t. reduced fs os s g row (vec_items v) c.in_ok-firm.ensures (subst (λ l. Thinned fs os s l (vec_items v)) c.as_slice.ensures.value t)) c.thin.ensures

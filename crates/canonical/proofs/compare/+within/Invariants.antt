@@ -1,5 +1,6 @@
 use Rattle.std.proofs.Common.{take}
 use Rattle.std.specs.List.{AllByRecursion as Every}
+use Rattle.board.specs.Values.{side_of}
 use Rattle.games.specs.Order.{NotWorse}
 use Rattle.forms.specs.Meaning.{meaning, given}
 use Rattle.canonical.proofs.compare.+within.Given as given'
@@ -8,7 +9,7 @@ abbrev pub decreases-within : given'.decreases-within
 decreases-within l = l.k
 
 abbrev pub invariant-loop-x : given'.invariant-loop-x
-invariant-loop-x l = Every (λ x. NotWorse l.side (given l.forms l.options l.upright l.flat) (meaning l.forms l.options x)) (take l.x-index l.own)
+invariant-loop-x l = Every (λ x. NotWorse (side_of l.side) (given l.forms.forms.now l.forms.options.now l.rows.upright.now l.rows.flat.now) (meaning l.forms.forms.now l.forms.options.now x)) (take l.x-index l.own)
 
 abbrev pub invariant-loop-y : given'.invariant-loop-y
-invariant-loop-y l = Every (λ y. NotWorse l.side (meaning l.forms l.options y) (meaning l.forms l.options l.k)) (take l.y-index l.replies)
+invariant-loop-y l = Every (λ y. NotWorse (side_of l.side) (meaning l.forms.forms.now l.forms.options.now y) (meaning l.forms.forms.now l.forms.options.now l.k)) (take l.y-index l.replies)

@@ -1,5 +1,6 @@
 use Rattle.std.proofs.Common.{◌<◌, length, get_or, vec_items, arith}
 use Rattle.std.proofs.lemmas.Result.{IfOk-weaker}
+use Rattle.board.specs.Values.{side_of}
 use Rattle.forms.specs.Rows.{row_of}
 use Rattle.forms.specs.Meaning.{given}
 use Rattle.forms.proofs.Places.{option_below}
@@ -10,24 +11,24 @@ use Rattle.canonical.proofs.keep.+keep.Goals as goal
 
 pub returns-in_default : goal.returns-in_default
 returns-in_default t c =
-    let fs = c.args.forms.now in
-    let os = c.args.options.now in
-    let g = given fs os c.args.upright.now c.args.flat.now in
+    let fs = c.args.forms.forms.now in
+    let os = c.args.forms.options.now in
+    let g = given fs os c.args.rows.upright.now c.args.rows.flat.now in
     let row = vec_items c.args.chosen.now in
     let new = vec_items c.insert.new.row in
-    IfOk-weaker c.insert.result (λ _. Inserted row c.args.x new) (λ _. Passed fs os c.args.side g row c.args.x new)
-    (λ _ put. kept_in fs os c.args.side g row c.args.x new c.requires.fit c.requires.known c.requires.allowed c.in_default.ensures put) c.insert.ensures
+    IfOk-weaker c.insert.result (λ _. Inserted row c.args.x new) (λ _. Passed fs os (side_of c.args.side) g row c.args.x new)
+    (λ _ put. kept_in fs os (side_of c.args.side) g row c.args.x new c.requires.fit c.requires.known c.requires.allowed c.in_default.ensures put) c.insert.ensures
 
 pub loop-z-init : goal.loop-z-init
 loop-z-init t c =
-    passing_none c.args.forms.now c.args.options.now c.args.side (given c.args.forms.now c.args.options.now c.args.upright.now c.args.flat.now) (vec_items c.args.chosen.now) c.requires.fit
+    passing_none c.args.forms.forms.now c.args.forms.options.now (side_of c.args.side) (given c.args.forms.forms.now c.args.forms.options.now c.args.rows.upright.now c.args.rows.flat.now) (vec_items c.args.chosen.now) c.requires.fit
 
 pub keep-requires : goal.keep-requires
 keep-requires t c =
-    let fs = c.args.forms.now in
-    let os = c.args.options.now in
-    let s = c.args.side in
-    let g = given fs os c.args.upright.now c.args.flat.now in
+    let fs = c.args.forms.forms.now in
+    let os = c.args.forms.options.now in
+    let s = (side_of c.args.side) in
+    let g = given fs os c.args.rows.upright.now c.args.rows.flat.now in
     let r = c.in-Some.ensures in
     let y = c.in-Some.y in
     let z = get_or c.row-after.result.now c.loop-z.z-index 0 in
@@ -41,18 +42,18 @@ keep-requires t c =
 
 pub loop-z-preserved : goal.loop-z-preserved
 loop-z-preserved t c =
-    let fs = c.args.forms.now in
-    let os = c.args.options.now in
-    let g = given fs os c.args.upright.now c.args.flat.now in
-    passing_more fs os c.args.side g (vec_items c.args.chosen.now) (vec_items c.loop-z.chosen) (vec_items c.keep.new.chosen) c.row-after.result.now c.loop-z.z-index
+    let fs = c.args.forms.forms.now in
+    let os = c.args.forms.options.now in
+    let g = given fs os c.args.rows.upright.now c.args.rows.flat.now in
+    passing_more fs os (side_of c.args.side) g (vec_items c.args.chosen.now) (vec_items c.loop-z.chosen) (vec_items c.keep.new.chosen) c.row-after.result.now c.loop-z.z-index
     c.loop-z-test.true c.loop-z.invariant c.in_ok-keep.ensures
 
 pub returns : goal.returns
 returns t c =
-    let fs = c.args.forms.now in
-    let os = c.args.options.now in
-    let s = c.args.side in
-    let g = given fs os c.args.upright.now c.args.flat.now in
+    let fs = c.args.forms.forms.now in
+    let os = c.args.forms.options.now in
+    let s = (side_of c.args.side) in
+    let g = given fs os c.args.rows.upright.now c.args.rows.flat.now in
     let r = c.in-Some.ensures in
     let less = r.0 in
     bypassed fs os s g c.requires.sound c.args.x c.in-Some.y (omega (arith, c.requires.known)) r.1 r.2 (vec_items c.args.chosen.now) (vec_items c.loop-z.chosen)

@@ -1,4 +1,5 @@
 use Rattle.std.proofs.Common.{take, vec_items}
+use Rattle.board.specs.Values.{side_of}
 use Rattle.forms.specs.Meaning.{given}
 use Rattle.canonical.proofs.Passing.{Passing}
 use Rattle.canonical.proofs.keep.+keep.Given as given'
@@ -7,4 +8,4 @@ abbrev pub decreases-keep : given'.decreases-keep
 decreases-keep l = l.x
 
 abbrev pub invariant-loop-z : given'.invariant-loop-z
-invariant-loop-z l = Passing l.forms l.options l.side (given l.forms l.options l.upright l.flat) (vec_items l.initial.chosen) (vec_items l.chosen) (take l.z-index l.after)
+invariant-loop-z l = Passing l.forms.forms.now l.forms.options.now (side_of l.side) (given l.forms.forms.now l.forms.options.now l.rows.upright.now l.rows.flat.now) (vec_items l.initial.chosen) (vec_items l.chosen) (take l.z-index l.after)

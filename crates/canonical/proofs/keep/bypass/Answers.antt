@@ -1,6 +1,7 @@
 use Rattle.std.proofs.Common.{ℕ, List, [], get_or, vec_items, sym, subst, arith}
 use Rattle.std.specs.List.{ContainsAt as Has}
 use Rattle.std.proofs.ByRecursion.{has_get_or}
+use Rattle.board.specs.Values.{side_of}
 use Rattle.games.proofs.Sides.{own}
 use Rattle.forms.specs.Meaning.{meaning, given}
 use Rattle.forms.proofs.Givens.{in_given}
@@ -10,42 +11,42 @@ use Rattle.canonical.proofs.keep.bypass.Goals as goal
 
 pub loop-x-init : goal.loop-x-init
 loop-x-init c =
-    let fs = c.args.forms.now in
-    let os = c.args.options.now in
-    let g = given fs os c.args.upright.now c.args.flat.now in
+    let fs = c.args.forms.forms.now in
+    let os = c.args.forms.options.now in
+    let g = given fs os c.args.rows.upright.now c.args.rows.flat.now in
     let none : List ℕ = [] in
-    subst (λ row. Passing fs os c.args.side g none row none) (sym c.new-chosen.ensures.items) (passing_none fs os c.args.side g none (fit_none fs os c.args.side g))
+    subst (λ row. Passing fs os (side_of c.args.side) g none row none) (sym c.new-chosen.ensures.items) (passing_none fs os (side_of c.args.side) g none (fit_none fs os (side_of c.args.side) g))
 
 pub keep-requires : goal.keep-requires
 keep-requires c =
-    let fs = c.args.forms.now in
-    let os = c.args.options.now in
-    let us = c.args.upright.now in
-    let ls = c.args.flat.now in
-    let s = c.args.side in
-    let xs = c.of_side-own.result.now in
+    let fs = c.args.forms.forms.now in
+    let os = c.args.forms.options.now in
+    let us = c.args.rows.upright.now in
+    let ls = c.args.rows.flat.now in
+    let s = (side_of c.args.side) in
+    let xs = c.of-own.result.now in
     let x = get_or xs c.loop-x.x-index 0 in
     record {
       sound = c.requires.sound;
-      known = known_at fs us ls c.requires.rows s xs c.of_side-own.ensures c.loop-x.x-index c.loop-x-test.true;
+      known = known_at fs us ls c.requires.rows s xs c.of-own.ensures c.loop-x.x-index c.loop-x-test.true;
       rows = c.requires.rows;
-      allowed = own s (given fs os us ls) (meaning fs os x) (in_given fs os us ls s x (subst (λ zs. Has zs x) c.of_side-own.ensures (has_get_or xs c.loop-x.x-index 0 c.loop-x-test.true)));
+      allowed = own s (given fs os us ls) (meaning fs os x) (in_given fs os us ls s x (subst (λ zs. Has zs x) c.of-own.ensures (has_get_or xs c.loop-x.x-index 0 c.loop-x-test.true)));
       fit = c.loop-x.invariant.fit;
     }
 
 pub loop-x-preserved : goal.loop-x-preserved
 loop-x-preserved c =
-    let fs = c.args.forms.now in
-    let os = c.args.options.now in
-    passing_more fs os c.args.side (given fs os c.args.upright.now c.args.flat.now) [] (vec_items c.loop-x.chosen) (vec_items c.keep.new.chosen) c.of_side-own.result.now c.loop-x.x-index
+    let fs = c.args.forms.forms.now in
+    let os = c.args.forms.options.now in
+    passing_more fs os (side_of c.args.side) (given fs os c.args.rows.upright.now c.args.rows.flat.now) [] (vec_items c.loop-x.chosen) (vec_items c.keep.new.chosen) c.of-own.result.now c.loop-x.x-index
     c.loop-x-test.true c.loop-x.invariant c.in_ok-keep.ensures
 
 pub returns : goal.returns
 returns c =
-    let fs = c.args.forms.now in
-    let os = c.args.options.now in
-    let us = c.args.upright.now in
-    let ls = c.args.flat.now in
-    let s = c.args.side in
+    let fs = c.args.forms.forms.now in
+    let os = c.args.forms.options.now in
+    let us = c.args.rows.upright.now in
+    let ls = c.args.rows.flat.now in
+    let s = (side_of c.args.side) in
     all_passed fs os s us ls (vec_items c.loop-x.chosen)
-    (passing_end fs os s (given fs os us ls) [] (vec_items c.loop-x.chosen) _ _ c.of_side-own.ensures c.loop-x.x-index (omega arith) c.loop-x.invariant)
+    (passing_end fs os s (given fs os us ls) [] (vec_items c.loop-x.chosen) _ _ c.of-own.ensures c.loop-x.x-index (omega arith) c.loop-x.invariant)

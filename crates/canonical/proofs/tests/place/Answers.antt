@@ -6,14 +6,12 @@ use Rattle.canonical.proofs.tests.place.Goals as goal
 
 pub canonical-requires : goal.canonical-requires
 canonical-requires c =
-    let fs = c.args.forms.now in
-    let n = c.args.used in
+    let t = c.args.table.now in
+    let us = c.args.rows.upright.now in
+    let ls = c.args.rows.flat.now in
     record {
-      table = c.requires.table;
+      table = c.requires;
       rows =
-          λ s. subst (λ m. Every (λ x. x < m) (row_for s c.args.upright.now c.args.flat.now)) (sym (use_length fs c.args.options.now n c.requires.table))
-          (elim s as (λ t. Every (λ x. x < n) (row_for t c.args.upright.now c.args.flat.now)) [ true ↦ c.if-not-are_below.ensures refl | false ↦ c.if-not-are_below-2.ensures refl ]);
+          λ s. subst (λ m. Every (λ x. x < m) (row_for s us ls)) (sym (use_length t.forms.now t.options.now t.used c.requires))
+          (elim s as (λ t'. Every (λ x. x < t.used) (row_for t' us ls)) [ true ↦ c.if-not-are_below.ensures refl | false ↦ c.if-not-are_below-2.ensures refl ]);
     }
-
-pub returns-in-Ok : goal.returns-in-Ok
-returns-in-Ok c = c.in-Ok.ensures.table

@@ -1,5 +1,6 @@
 use Rattle.std.proofs.Common.{ℕ, ◌<◌, length, get_or, refl, arith}
 use Rattle.std.proofs.ByRecursion.{All-more, All-get_or, all-has, has_get_or}
+use Rattle.board.specs.Values.{side_of}
 use Rattle.games.specs.Order.{NotWorse}
 use Rattle.forms.specs.Meaning.{meaning}
 use Rattle.forms.proofs.Compared.{walked}
@@ -10,7 +11,7 @@ worse-requires c =
     record {
       sound = c.requires.sound;
       first = c.requires.first;
-      second = All-get_or (λ y. y < length c.args.forms.now) c.args.row.now c.loop-y.y-index 0 c.loop-y-test.true c.requires.known;
+      second = All-get_or (λ y. y < length c.args.forms.forms.now) c.args.row.now c.loop-y.y-index 0 c.loop-y-test.true c.requires.known;
     }
 
 pub returns-then-worse : goal.returns-then-worse
@@ -18,12 +19,12 @@ returns-then-worse c = (get_or c.args.row.now c.loop-y.y-index 0, has_get_or c.a
 
 pub loop-y-preserved : goal.loop-y-preserved
 loop-y-preserved c =
-    All-more (λ y. NotWorse c.args.side (meaning c.args.forms.now c.args.options.now c.args.x) (meaning c.args.forms.now c.args.options.now y))
+    All-more (λ y. NotWorse (side_of c.args.side) (meaning c.args.forms.forms.now c.args.forms.options.now c.args.x) (meaning c.args.forms.forms.now c.args.forms.options.now y))
     c.args.row.now c.loop-y.y-index 0 c.loop-y-test.true c.loop-y.invariant c.if-worse.ensures
 
 pub returns : goal.returns
 returns c y h =
-    let fs = c.args.forms.now in
-    let os = c.args.options.now in
-    let P : ℕ → Type 0 = λ y. NotWorse c.args.side (meaning fs os c.args.x) (meaning fs os y) in
+    let fs = c.args.forms.forms.now in
+    let os = c.args.forms.options.now in
+    let P : ℕ → Type 0 = λ y. NotWorse (side_of c.args.side) (meaning fs os c.args.x) (meaning fs os y) in
     all-has P c.args.row.now y (walked P c.args.row.now c.args.row.now refl c.loop-y.y-index (omega arith) c.loop-y.invariant) h
