@@ -1,7 +1,6 @@
 // Rooms with known numbers of forms and of positions.
 ghost use Rattle.std.specs.Prelude.{IfOk};
 ghost use Rattle.forms.specs.Links.{Table};
-ghost use Rattle.positions.specs.Values.{GroundOf};
 
 use board::read::read_board;
 use forms::rows::Form;
@@ -38,7 +37,6 @@ fn tell_forms(
     options: &mut [u16],
     used: u16,
 ) -> io::Result<u16>
-    requires ground { GroundOf room.now }
     requires table { Table forms.old options.old used }
     ensures { IfOk result (λ n. Table forms.new options.new n) }
 {

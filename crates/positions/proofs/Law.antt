@@ -1,7 +1,7 @@
 -- What the game of a board reaches; and the whole answer for a room.
-use Rattle.std.proofs.Common.{◌≡◌, ℕ, suc, ◌+◌, ◌-◌, ◌/◌, ◌%◌, ◌^◌, ◌<◌, ◌≤◌, true, List, [], ◌∷◌, length, get_or, take, drop, Err, sym, refl, ap, ◌∙◌, subst, ⊎_elim, pow-suc, arith, pow_pos}
+use Rattle.std.proofs.Common.{◌≡◌, ℕ, suc, ◌+◌, ◌-◌, ◌/◌, ◌%◌, ◌^◌, ◌<◌, ◌≤◌, true, List, [], ◌∷◌, length, get_or, take, drop, replicate, Err, sym, refl, ap, ◌∙◌, subst, ⊎_elim, pow-suc, arith, pow_pos}
 use Rattle.std.specs.List.{ContainsAt as Has}
-use Rattle.std.proofs.lemmas.List.{get_or_past, length-take}
+use Rattle.std.proofs.lemmas.List.{get_or-replicate, get_or_past, length-replicate, length-take}
 use Rattle.std.proofs.lemmas.Bool.{cases_lt, eq-eqb}
 use Rattle.games.specs.Game.{Game, options, In, Reached, itself, onward}
 use Rattle.games.specs.Order.{Equal}
@@ -71,6 +71,12 @@ module _ (r : RoomMoves) (ground : GroundOf r) where
   pub kind_position : (f : Game) → KindOf r f → PositionOf (grid_of r.board) (room_squares r) f
   unfolding game_at
   kind_position f k = (position (grid_of r.board) (room_squares r) k.0, leads_position k.0 k.1, k.2)
+
+-- cleared memory is all zeros
+pub zeros : (n : ℕ) (ps : List ℕ) → ps ≡ replicate n 0 → (k : ℕ) → get_or ps k 0 ≡ 0
+zeros n ps e k =
+    subst (λ l. ◌≡◌ {A = ℕ} (get_or l k 0) 0) (sym e)
+    (⊎_elim (λ low. get_or-replicate n k 0 0 low) (λ high. get_or_past (replicate n 0) k 0 (let long = length-replicate {A = ℕ} n 0 in omega arith)) (cases_lt k n))
 
 -- nothing is remembered yet
 pub forgets : (r : RoomMoves) (fs : List Form) (os : List ℕ) (n : ℕ) (ps : List ℕ) → ((k : ℕ) → get_or ps k 0 ≡ 0) → MemoryOf r fs os n ps

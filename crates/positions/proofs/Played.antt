@@ -1,9 +1,9 @@
 -- The games of a room's positions: their options are the games of the positions after a move.
-use Rattle.std.proofs.Common.{◌≡◌, ℕ, ◌-◌, ◌^◌, ◌<◌, ◌≤◌, true, List, ◌∷◌, length, get_or, sym, ap, ◌∙◌, subst, ⊎_elim, arith}
+use Rattle.std.proofs.Common.{◌≡◌, ℕ, ◌-◌, ◌^◌, ◌<◌, ◌≤◌, true, false, List, ◌∷◌, length, get_or, Option, None, Some, MatchOption, IfSome, is_some, unwrap_or, eqb, sym, refl, ap, ◌∙◌, subst, arith}
+use lib.Bits.{bit_and}
 use lib.Count.{ones}
 use Rattle.std.specs.List.{ContainsAt as Has}
-use Rattle.std.proofs.lemmas.Bool.{cases_Bool, both_ways}
-use Rattle.std.proofs.lemmas.Bool.Decides.{when_false}
+use Rattle.std.proofs.lemmas.Bool.{both_ways, eqb-true, eq-eqb}
 use Rattle.games.specs.Game.{Game, options, In}
 use Rattle.board.specs.Grid.{Grid, Side, free_count}
 use Rattle.board.specs.Moves.{may, laid}
@@ -12,7 +12,7 @@ use Rattle.board.proofs.Covering.{covers_from}
 use Rattle.board.proofs.Trees.{in_tree, of_tree}
 use Rattle.rooms.proofs.Lists.{has_here}
 use Rattle.rooms.proofs.Through.{covered, seen_fewer}
-use Rattle.positions.specs.Sets.{has, chosen, position, inside, Holds, Move, Ground}
+use Rattle.positions.specs.Sets.{has, chosen, position, inside, Holds, Move, set_in, row_for, Ground}
 use Rattle.positions.specs.Reach.{Moves, Comes, already, after, game_at, set_at, Can, Leads, stay, move}
 use Rattle.positions.proofs.Bits.{has_zero, ones_left, ones_some}
 use Rattle.positions.proofs.Steps.{has_covered, may_at, laid_at, place_at, inside_at, part_at}
@@ -20,23 +20,60 @@ use Rattle.positions.proofs.Steps.{has_covered, may_at, laid_at, place_at, insid
 -- a rising room of free squares, and its moves
 module _ (b : Grid) (qs : List ℕ) (ms : Moves) (made : Ground b qs ms.upright ms.flat) where
   -- a move that is not empty lies in the room
-  inside_some : (s : Side) (i : ℕ) → i < length qs → (set_at ms s i ≡ 0 → ⊥) → inside b qs s i ≡ true
+  inside_some : (s : Side) (i : ℕ) → i < length qs → (set_at ms s i ≡ 0 → ⊥) → inside b qs s (get_or qs i 0) ≡ true
   unfolding Move
-  inside_some s i low some =
-      ⊎_elim (λ e. e) (λ e. absurd (some (when_false (Holds qs (covered b s (get_or qs i 0)) (set_at ms s i)) (set_at ms s i ≡ 0) e (made.each s i low)))) (cases_Bool (inside b qs s i))
+  inside_some s i low some = go (set_in (row_for s ms.upright ms.flat) i) (made.each s i low) some
+    where
+      go : (set : Option ℕ) → MatchOption set (inside b qs s (get_or qs i 0) ≡ false) (λ m. (inside b qs s (get_or qs i 0) ≡ true) × Holds qs (covered b s (get_or qs i 0)) m) →
+          (unwrap_or set 0 ≡ 0 → ⊥) → inside b qs s (get_or qs i 0) ≡ true
+      go None h some = absurd (some refl)
+      go (Some m) h some = h.0
+
+  -- the set of one that lies in the room
+  holds_there : (s : Side) (i : ℕ) → i < length qs → inside b qs s (get_or qs i 0) ≡ true → Holds qs (covered b s (get_or qs i 0)) (set_at ms s i)
+  unfolding Move
+  holds_there s i low e = go (set_in (row_for s ms.upright ms.flat) i) (made.each s i low)
+    where
+      go : (set : Option ℕ) → MatchOption set (inside b qs s (get_or qs i 0) ≡ false) (λ m. (inside b qs s (get_or qs i 0) ≡ true) × Holds qs (covered b s (get_or qs i 0)) m) →
+          Holds qs (covered b s (get_or qs i 0)) (unwrap_or set 0)
+      go None h = absurd (both_ways (inside b qs s (get_or qs i 0)) h e)
+      go (Some m) h = h.1
+
+  small_at : (s : Side) (i : ℕ) → set_at ms s i < 2 ^ 16
+  small_at s i = go (set_in (row_for s ms.upright ms.flat) i) (made.small s i)
+    where
+      go : (set : Option ℕ) → IfSome set (λ m. m < 2 ^ 16) → unwrap_or set 0 < 2 ^ 16
+      go None h = omega arith
+      go (Some m) h = h
 
   -- and one that lies in the room has its own square
-  has_own : (s : Side) (i : ℕ) → i < length qs → inside b qs s i ≡ true → has (set_at ms s i) i ≡ true
+  has_own : (s : Side) (i : ℕ) → i < length qs → inside b qs s (get_or qs i 0) ≡ true → has (set_at ms s i) i ≡ true
   has_own s i low e =
       let first = covers_from b.width (length b.cells) s (get_or qs i 0) in
-      has_covered b qs made.inside s i (set_at ms s i) e (made.each s i low) i low (subst (λ l. Has l (get_or qs i 0)) (sym first.2) (has_here (get_or qs i 0) (first.0 ∷ first.1)))
+      has_covered b qs made.inside s i (set_at ms s i) e (holds_there s i low e) i low (subst (λ l. Has l (get_or qs i 0)) (sym first.2) (has_here (get_or qs i 0) (first.0 ∷ first.1)))
+
+  -- what the move at a square leaves of a set, if all that it covers is there
+  pub left_of : (set : ℕ) (s : Side) (i m : ℕ) (rest : Option ℕ) → set_in (row_for s ms.upright ms.flat) i ≡ Some m → i < length qs → is_some rest ≡ eqb (bit_and set m) m → IfSome rest (λ r. r ≡ set - m) →
+      MatchOption rest (Can (length qs) ms set s i → ⊥) (λ r. Can (length qs) ms set s i × (r ≡ set - set_at ms s i))
+  unfolding Move
+  left_of set s i m None at low all is = λ can. both_ways (eqb (bit_and set m) m) (sym all) (eq-eqb (bit_and set m) m (subst (λ x. bit_and set x ≡ x) (ap (λ x. unwrap_or x 0) at) can.part))
+  left_of set s i m (Some r) at low all is =
+      let same : set_at ms s i ≡ m = ap (λ x. unwrap_or x 0) at in
+      let in_room = (subst (λ x. MatchOption x (inside b qs s (get_or qs i 0) ≡ false) (λ m. (inside b qs s (get_or qs i 0) ≡ true) × Holds qs (covered b s (get_or qs i 0)) m)) at (made.each s i low)).0 in (
+        record {
+          low = low;
+          some = λ z. both_ways (has (set_at ms s i) i) (ap (λ x. has x i) z ∙ has_zero i) (has_own s i low in_room);
+          part = subst (λ x. bit_and set x ≡ x) (sym same) (eqb-true (bit_and set m) m (sym all));
+        },
+        is ∙ ap (λ x. set - x) (sym same),
+      )
 
   -- a move leads to the position without its squares
   pub may_there : (set : ℕ) (s : Side) (i : ℕ) → Can (length qs) ms set s i → may (position b qs set) s (get_or qs i 0) ≡ true
-  may_there set s i can = may_at b qs made.inside s i (set_at ms s i) (inside_some s i can.low can.some) (made.each s i can.low) set can.part
+  may_there set s i can = (let e = inside_some s i can.low can.some in may_at b qs made.inside s i (set_at ms s i) e (holds_there s i can.low e) set can.part)
 
   pub laid_there : (set : ℕ) (s : Side) (i : ℕ) → Can (length qs) ms set s i → laid (position b qs set) s (get_or qs i 0) ≡ position b qs (set - set_at ms s i)
-  laid_there set s i can = laid_at b qs made.inside s i (set_at ms s i) (inside_some s i can.low can.some) (made.each s i can.low) set can.part
+  laid_there set s i can = (let e = inside_some s i can.low can.some in laid_at b qs made.inside s i (set_at ms s i) e (holds_there s i can.low e) set can.part)
 
   -- and every plank that may be laid is such a move
   pub can_there : (set p : ℕ) (s : Side) → may (position b qs set) s p ≡ true → (i : ℕ) × (get_or qs i 0 ≡ p) × Can (length qs) ms set s i
@@ -49,7 +86,7 @@ module _ (b : Grid) (qs : List ℕ) (ms : Moves) (made : Ground b qs ms.upright 
         record {
           low = at.low;
           some = λ z. both_ways (has (set_at ms s i) i) (ap (λ x. has x i) z ∙ has_zero i) (has_own s i at.low ins);
-          part = part_at b qs made.rising s set p lawful 16 (set_at ms s i) (made.small s i) (made.each s i at.low);
+          part = part_at b qs made.rising s set p lawful 16 (set_at ms s i) (small_at s i) (holds_there s i at.low ins);
         },
       )
 

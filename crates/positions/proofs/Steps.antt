@@ -4,7 +4,7 @@ use lib.Bits.{bit_and}
 use Rattle.std.specs.List.{ContainsAt as Has, AllByRecursion as Every}
 use Rattle.std.proofs.ByRecursion.{all-has, has_get_or}
 use Rattle.std.proofs.lemmas.Bool.{both_ways, cases_Bool, and_parts, and_from, not-true, lt-ltb, ltb-true}
-use Rattle.std.proofs.lemmas.Bool.Decides.{when_true, same_from_decides}
+use Rattle.std.proofs.lemmas.Bool.Decides.{same_from_decides}
 use Rattle.board.specs.Grid.{Grid, Side, free}
 use Rattle.board.specs.Moves.{covers, fits, each_free, may, laid}
 use Rattle.board.proofs.Covering.{covers_from}
@@ -12,7 +12,7 @@ use Rattle.rooms.specs.Games.{among, through}
 use Rattle.rooms.specs.Walks.{Rise}
 use Rattle.rooms.proofs.Lists.{all_by_has}
 use Rattle.rooms.proofs.Through.{among_has, has_among, free_through, covered, to_through, of_through, laid_through, same_grid, at_taken, length_seen, length_taken}
-use Rattle.positions.specs.Sets.{has, chosen, position, all_among, inside, Holds, Move}
+use Rattle.positions.specs.Sets.{has, chosen, position, all_among, inside, Holds}
 use Rattle.positions.proofs.Bits.{has_in, has_left, part_from}
 use Rattle.positions.proofs.Choices.{At, chosen_has, has_chosen, one_number}
 
@@ -33,11 +33,7 @@ all_free_from b [] h = refl
 all_free_from b (p ∷ ps) h = and_from (free b p) (each_free b ps) h.0 (all_free_from b ps h.1)
 
 -- a room of free squares, and the set of a move in it
-module _ (b : Grid) (qs : List ℕ) (room : (q : ℕ) → Has qs q → free b q ≡ true) (s : Side) (i m : ℕ) (in_room : inside b qs s i ≡ true) (move : Move b qs s i m) where
-  covers_is : Holds qs (covered b s (get_or qs i 0)) m
-  unfolding Move
-  covers_is = when_true (Holds qs (covered b s (get_or qs i 0)) m) (m ≡ 0) in_room move
-
+module _ (b : Grid) (qs : List ℕ) (room : (q : ℕ) → Has qs q → free b q ≡ true) (s : Side) (i m : ℕ) (in_room : inside b qs s (get_or qs i 0) ≡ true) (covers_is : Holds qs (covered b s (get_or qs i 0)) m) where
   -- the set has the squares that are covered
   pub has_covered : (j : ℕ) → j < length qs → Has (covered b s (get_or qs i 0)) (get_or qs j 0) → has m j ≡ true
   has_covered j h c = covers_is j ∙ and_from (ltb j (length qs)) (among (covered b s (get_or qs i 0)) (get_or qs j 0)) (lt-ltb j (length qs) h) (has_among (covered b s (get_or qs i 0)) (get_or qs j 0) c)
@@ -119,7 +115,7 @@ module _ (b : Grid) (qs : List ℕ) (rise : Rise (λ q. q) qs) (s : Side) (set p
       let first = covers_from b.width (length b.cells) s p in
       has_chosen qs set p (subst (Every (Has (chosen qs set))) first.2 held.1).0
 
-  pub inside_at : inside b qs s place_at.number ≡ true
+  pub inside_at : inside b qs s (get_or qs place_at.number 0) ≡ true
   unfolding may
   inside_at =
       subst (λ q. (fits b.width (length b.cells) s q && all_among (covers b.width (length b.cells) s q) qs) ≡ true) (sym place_at.is)
@@ -131,12 +127,11 @@ module _ (b : Grid) (qs : List ℕ) (rise : Rise (λ q. q) qs) (s : Side) (set p
       in_room q h = let at = has_chosen qs set q h in subst (Has qs) at.is (has_get_or qs at.number 0 at.low)
 
   -- and all that it covers is in the position
-  pub part_at : (n m : ℕ) → m < 2 ^ n → Move b qs s place_at.number m → bit_and set m ≡ m
-  unfolding Move
-  part_at n m small move =
+  pub part_at : (n m : ℕ) → m < 2 ^ n → Holds qs (covered b s (get_or qs place_at.number 0)) m → bit_and set m ≡ m
+  part_at n m small covers_is =
       part_from n set m small
       (λ j e.
-      let parts = and_parts (ltb j (length qs)) (among (covered b s (get_or qs place_at.number 0)) (get_or qs j 0)) (sym (when_true (Holds qs (covered b s (get_or qs place_at.number 0)) m) (m ≡ 0) inside_at move j) ∙ e) in
+      let parts = and_parts (ltb j (length qs)) (among (covered b s (get_or qs place_at.number 0)) (get_or qs j 0)) (sym (covers_is j) ∙ e) in
       let low = ltb-true j (length qs) parts.0 in
       let at = has_chosen qs set (get_or qs j 0) (all-has (Has (chosen qs set)) (covered b s p) (get_or qs j 0) held.1 (subst (λ q. Has (covered b s q) (get_or qs j 0)) place_at.is (among_has (covered b s (get_or qs place_at.number 0)) (get_or qs j 0) parts.1))) in
       subst (λ k. has set k ≡ true) (one_number qs rise at.number j at.low low at.is) at.member)

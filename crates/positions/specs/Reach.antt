@@ -1,10 +1,10 @@
 -- What planks make of a room: its positions, and their games.
-use Rattle.std.specs.Prelude.{◌≡◌, ℕ, ◌-◌, ◌<◌, true, List, bit_and, slice_index}
+use Rattle.std.specs.Prelude.{◌≡◌, ℕ, ◌-◌, ◌<◌, true, List, Option, unwrap_or, bit_and}
 use Rattle.games.specs.Game.{Game}
 use Rattle.board.specs.Grid.{Grid, Side, free_count}
 use Rattle.board.specs.Moves.{may, laid}
 use Rattle.board.specs.Tree.{tree}
-use Rattle.positions.specs.Sets.{position, row_for}
+use Rattle.positions.specs.Sets.{position, row_for, set_in}
 
 -- planks of either player, in whatever order, lead from one board to another
 pub data Comes : Grid → Grid → Type 0 where
@@ -15,14 +15,14 @@ pub data Comes : Grid → Grid → Type 0 where
 unfoldable pub game_at : Grid → List ℕ → ℕ → Game
 game_at b qs set = tree (free_count b.cells) (position b qs set)
 
--- the sets of the moves of each side, square by square
+-- the sets of the moves of each side, square by square, and None where there is no such move
 pub record Moves : Type 0 where
-  pub upright : List ℕ
-  pub flat : List ℕ
+  pub upright : List (Option ℕ)
+  pub flat : List (Option ℕ)
 
--- the set of a side's move at square number i
+-- the set of a side's move at square number i, or the empty set
 abbrev pub set_at : Moves → Side → ℕ → ℕ
-set_at ms s i = slice_index (row_for s ms.upright ms.flat) i
+set_at ms s i = unwrap_or (set_in (row_for s ms.upright ms.flat) i) 0
 
 -- there is such a move, and all that it covers is in the set
 pub record Can (n : ℕ) (ms : Moves) (set : ℕ) (s : Side) (i : ℕ) : Type 0 where

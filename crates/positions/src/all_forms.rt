@@ -3,7 +3,7 @@ ghost use Rattle.std.specs.Prelude.{◌≡◌, ℕ, ◌<◌, ◌≤◌, length, 
 ghost use Rattle.board.specs.Values.{grid_of};
 ghost use Rattle.forms.specs.Links.{Table};
 ghost use Rattle.positions.specs.Answers.{Listed, RoomAnswer, PositionsLaw};
-ghost use Rattle.positions.specs.Values.{room_squares, GroundOf, full_of};
+ghost use Rattle.positions.specs.Values.{room_squares, full_of};
 
 use crate::form::form;
 use crate::room::RoomMoves;
@@ -29,14 +29,13 @@ pub fn room_forms(
     positions: &mut [u32],
     used: u16,
 ) -> Result<RoomForms, Refusal>
-    requires ground { GroundOf room.now }
     requires table { Table forms.old options.old used }
     requires long { full_of room.now < length positions.old }
     ensures { RoomAnswer (grid_of room.now.board) (room_squares room.now) forms.old options.old used forms.new options.new result }
 {
     let full = room.full();
     let sets = &mut positions[0..full as usize + 1];
-    clear(sets);
+    sets.fill(0);
     let own = match form(heap, room, forms, options, sets, used, full) {
         Ok(own) => own,
         Err(e) => return Err(e),
@@ -66,18 +65,7 @@ fn noted_forms(heap: Global, sets: &[u32]) -> Result<Vec<u16>, AllocError>
     Ok(all)
 }
 
-// Nothing is known of any set.
-fn clear(sets: &mut [u32])
-    ensures { (k : ℕ) → slice_index sets.new k ≡ 0 }
-{
-    for noted in sets.iter_mut() {
-        *noted = 0;
-    }
-}
-
 // What the game of a board reaches are the games of the boards that planks make of it.
-pub fn positions_stand() -> u8
+pub fn positions_stand()
     ensures { PositionsLaw }
-{
-    0
-}
+{}

@@ -3,7 +3,7 @@ ghost use Rattle.std.specs.Prelude.{◌≡◌, suc, ◌<◌, ◌≤◌, length, 
 ghost use Rattle.forms.specs.Links.{Table};
 ghost use Rattle.board.specs.Values.{side_of};
 ghost use Rattle.positions.specs.Forming.{LeadsTo, MemoryOf, Formed, RowFormed};
-ghost use Rattle.positions.specs.Values.{GroundOf, full_of};
+ghost use Rattle.positions.specs.Values.{full_of};
 
 use crate::room::RoomMoves;
 use board::side::Side;
@@ -30,7 +30,6 @@ pub fn form(
     used: u16,
     set: u16,
 ) -> Result<Placed, Refusal>
-    requires ground { GroundOf room.now }
     requires table { Table forms.old options.old used }
     requires long { full_of room.now < length positions.old }
     requires memory { MemoryOf room.now forms.old options.old used positions.old }
@@ -106,7 +105,6 @@ fn option_row(
     set: u16,
     side: Side,
 ) -> Result<OptionRow, Refusal>
-    requires ground { GroundOf room.now }
     requires table { Table forms.old options.old used }
     requires long { full_of room.now < length positions.old }
     requires memory { MemoryOf room.now forms.old options.old used positions.old }

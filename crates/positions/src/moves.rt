@@ -1,28 +1,23 @@
 // The moves of a room as sets of its squares: bit i of a set stands for square number i of the room.
-ghost use Rattle.std.specs.Prelude.{◌≡◌, ◌-◌, ◌^◌, ◌<◌, ◌≤◌, true, false, length, MatchOption, slice_index};
-ghost use Rattle.rooms.specs.Games.{among};
+ghost use Rattle.std.specs.Prelude.{◌≡◌, ℕ, ◌-◌, ◌^◌, ◌<◌, ◌≤◌, ◌==◌, length, MatchOption, IfSome, position, slice_index};
 ghost use Rattle.rooms.specs.Walks.{Rise};
 ghost use Rattle.board.specs.Values.{side_of, grid_of};
 ghost use Rattle.rooms.specs.Rooms.{Room as RoomOf};
 ghost use Rattle.rooms.specs.Values.{squares_of};
-ghost use Rattle.positions.specs.Sets.{Move, SetOf};
+ghost use Rattle.positions.specs.Sets.{Move, SetOf, set_in};
 ghost use Rattle.positions.specs.Values.{room_squares, GroundOf, move_set, CanOf, full_of};
 
 use crate::room::RoomMoves;
 use board::board::Board;
 use board::side::Side;
 use rooms::room::Room;
+use std::array;
 
 // The number of a square in a room.
 fn number_of(squares: &[u16], square: u16) -> Option<usize>
-    ensures { MatchOption result (among squares.now square ≡ false) (λ i. (i < length squares.now) × (slice_index squares.now i ≡ square)) }
+    ensures { result ≡ position (λ q. q == square) squares.now }
 {
-    for (i, q) in squares.iter().enumerate() {
-        if *q == square {
-            return Some(i);
-        }
-    }
-    None
+    squares.iter().position(|q| *q == square)
 }
 
 // The set of square number i alone.
@@ -33,33 +28,38 @@ fn single(i: usize) -> u16
     1u16 << i
 }
 
-// The set of these squares, or the empty set where one of them is not in the room.
-fn set_of(squares: &[u16], covered: &[u16]) -> u16
+// The set of these squares, or None where one of them is not in the room.
+fn set_of(squares: &[u16], covered: &[u16]) -> Option<u16>
     requires few { length squares.now ≤ 16 }
     requires rising { Rise (λ q. q) squares.now }
-    ensures { SetOf squares.now covered.now result }
+    ensures set { SetOf squares.now covered.now result }
+    ensures small { IfSome result (λ set. set < 2 ^ 16) }
 {
     let mut set = 0;
     for q in covered {
-        let Some(i) = number_of(squares, *q) else {
-            return 0;
-        };
-        set = set | single(i);
+        set |= single(number_of(squares, *q)?);
     }
-    set
+    Some(set)
 }
 
-// The set of the move of a side at square number i.
-fn move_at(board: &Board, squares: &[u16], side: Side, i: usize) -> u16
+// The set of the move of a side at a square.
+fn move_at(board: &Board, squares: &[u16], side: Side, square: u16) -> Option<u16>
     requires few { length squares.now ≤ 16 }
     requires rising { Rise (λ q. q) squares.now }
-    requires low { i < length squares.now }
-    ensures { Move (grid_of board.now) squares.now (side_of side) i result }
+    ensures set { Move (grid_of board.now) squares.now (side_of side) square result }
+    ensures small { IfSome result (λ set. set < 2 ^ 16) }
 {
-    match board.covers(side, squares[i]) {
-        Some(covered) => set_of(squares, &covered),
-        None => 0,
-    }
+    set_of(squares, &board.covers(side, square)?)
+}
+
+// The sets of the moves of a side, square by square.
+fn row_of(board: &Board, squares: &[u16], side: Side) -> [Option<u16>; 16]
+    requires few { length squares.now ≤ 16 }
+    requires rising { Rise (λ q. q) squares.now }
+    ensures each { (i : ℕ) → i < length squares.now → Move (grid_of board.now) squares.now (side_of side) (slice_index squares.now i) (set_in result i) }
+    ensures small { (i : ℕ) → IfSome (set_in result i) (λ set. set < 2 ^ 16) }
+{
+    array::from_fn(|i| move_at(board, squares, side, *squares.get(i)?))
 }
 
 impl RoomMoves {
@@ -71,17 +71,11 @@ impl RoomMoves {
         ensures ground { GroundOf result }
     {
         let squares = room.squares();
-        let mut upright = [0; 16];
-        let mut flat = [0; 16];
-        for i in 0..squares.len() {
-            upright[i] = move_at(board, squares, Side::Upright, i);
-            flat[i] = move_at(board, squares, Side::Flat, i);
-        }
         RoomMoves {
             board: *board,
             room: *room,
-            upright,
-            flat,
+            upright: row_of(board, squares, Side::Upright),
+            flat: row_of(board, squares, Side::Flat),
         }
     }
 
@@ -110,10 +104,7 @@ impl RoomMoves {
         let covered = match side {
             Side::Upright => self.upright[i],
             Side::Flat => self.flat[i],
-        };
-        if covered == 0 || set & covered != covered {
-            return None;
-        }
-        Some(set - covered)
+        }?;
+        (set & covered == covered).then(|| set - covered)
     }
 }

@@ -1,4 +1,8 @@
 // A room of a board, with its moves as sets of its squares: bit i of a set stands for square number i of the room.
+ghost use Rattle.board.specs.Values.{grid_of};
+ghost use Rattle.rooms.specs.Values.{squares_of};
+ghost use Rattle.positions.specs.Sets.{Ground, Ground-prop};
+
 use board::board::Board;
 use rooms::room::Room;
 
@@ -6,7 +10,8 @@ use rooms::room::Room;
 pub struct RoomMoves {
     pub(crate) board: Board,
     pub(crate) room: Room,
-    // for each side and each square of the room, the squares that the move there covers; the empty set where no such move lies in the room
-    pub(crate) upright: [u16; 16],
-    pub(crate) flat: [u16; 16],
+    // for each side and each square of the room, the squares that the move there covers, or None where no such move lies in the room
+    pub(crate) upright: [Option<u16>; 16],
+    pub(crate) flat: [Option<u16>; 16],
+    pub ghost ground: { Ground (grid_of board) (squares_of room) upright flat } by { Ground-prop (grid_of board) (squares_of room) upright flat },
 }

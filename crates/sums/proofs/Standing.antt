@@ -1,5 +1,11 @@
 -- Rooms with the same form may stand for each other, and others are told apart.
-use Rattle.std.proofs.Common.{◌≡◌, ℕ, ◌<◌, true, false, ◌⊎◌, List, [], ◌∷◌, length, get_or, take, Some, None, Option, sym, subst, inl, inr, arith}
+use Rattle.std.proofs.Common.{◌≡◌, ℕ, ◌<◌, ◌≤◌, true, false, ◌⊎◌, List, [], ◌∷◌, length, get_or, take, Some, None, Option, eqb, sym, ◌∙◌, subst, inl, inr, arith}
+use Rattle.std.specs.List.{position, position_or_len}
+use Rattle.std.proofs.lemmas.Grind.{common_steps}
+use Rattle.std.proofs.lemmas.Bool.{both_ways, eqb-true, eq-eqb}
+use Rattle.std.proofs.lemmas.List.{length-take, get_or-take}
+use Rattle.std.proofs.lemmas.List.Quantifiers.{position-Some}
+use Rattle.std.proofs.lemmas.List.Sums.{fails_before_first}
 use Rattle.games.specs.Game.{Game, neg}
 use Rattle.games.specs.Order.{Le, NotLe, Equal}
 use Rattle.games.specs.Play.{Same}
@@ -42,3 +48,18 @@ alike_in_play owns i (Some j) f b rs fs os n t own h =
     (f.0, same_form b rs fs os n t owns own j i (omega arith) h f.2, λ k l. other_form b rs fs os n t owns own k i (omega arith) h (f.3 k l))
 alike_in_play owns i None f b rs fs os n t own h =
     λ k l. other_form b rs fs os n t owns own k i (omega arith) h (f (let e = own.long in omega arith) k l)
+
+-- where the number at place i first stands among those before it
+pub first_same : (owns : List ℕ) (i own : ℕ) (r : Option ℕ) → i < length owns → own ≡ get_or owns i 0 → r ≡ position (λ x. eqb x own) (take i owns) → FirstSame owns i r
+first_same owns i own (Some j) h is e =
+    let there = position-Some (λ x. eqb x own) (take i owns) j 0 (sym e) in
+    let low : j < i = (let f = there.0 in let l = length-take i owns in omega arith) in (
+      low,
+      h,
+      sym (get_or-take i owns j 0 low) ∙ eqb-true (get_or (take i owns) j 0) own there.1 ∙ is,
+      λ k l same. both_ways (eqb (get_or (take i owns) k 0) own) (there.2 k l) (eq-eqb (get_or (take i owns) k 0) own (get_or-take i owns k 0 (omega arith) ∙ same ∙ sym is)),
+    )
+first_same owns i own None h is e = λ g k l same.
+    let past : length (take i owns) ≤ position_or_len (λ x. eqb x own) (take i owns) = grind (arith, common_steps) in
+    both_ways (eqb (get_or (take i owns) k 0) own) (fails_before_first (λ x. eqb x own) (take i owns) k 0 (let t = length-take i owns in omega arith))
+    (eq-eqb (get_or (take i owns) k 0) own (get_or-take i owns k 0 l ∙ same ∙ sym is))

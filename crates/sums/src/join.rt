@@ -3,7 +3,7 @@ ghost use Rattle.std.specs.Prelude.{◌<◌, take};
 ghost use Rattle.board.specs.Values.{grid_of};
 ghost use Rattle.forms.specs.Links.{Table};
 ghost use Rattle.forms.specs.Meaning.{meaning};
-ghost use Rattle.positions.specs.Values.{room_squares, GroundOf};
+ghost use Rattle.positions.specs.Values.{room_squares};
 ghost use Rattle.sums.specs.Rows.{JoinAnswer};
 ghost use Rattle.sums.specs.Sums.{HoldsRight};
 
@@ -36,7 +36,6 @@ pub fn join(
     used: u16,
     t: u16,
 ) -> Result<RoomJoined, Refusal>
-    requires ground { GroundOf room.now }
     requires table { Table forms.old options.old used }
     requires pairs { HoldsRight forms.old options.old used pairs.old }
     requires known { t < used }

@@ -6,23 +6,15 @@ ghost use Rattle.sums.specs.Pairs.{key_of, Recalled, OnlyMore};
 fn key(x: u16, y: u16) -> u32
     ensures { (result ≡ key_of x y) ⊎ (result ≡ key_of y x) }
 {
-    if x <= y {
-        1 + x as u32 * 16384 + y as u32
-    } else {
-        1 + y as u32 * 16384 + x as u32
-    }
+    1 + x.min(y) as u32 * 16384 + x.max(y) as u32
 }
 
 // Which two places of so many a key has, or None where there are no two.
 fn slot(places: usize, key: u32) -> Option<usize>
     ensures { MatchOption result Unit (λ i. 2 * i + 1 < places) }
 {
-    let slots = places / 2;
-    if slots == 0 {
-        return None;
-    }
     let key = key as usize;
-    Some((key / 16384 * 40503 + key) % slots)
+    (key / 16384 * 40503 + key).checked_rem(places / 2)
 }
 
 // The form of a sum, if it is remembered.
@@ -32,9 +24,7 @@ pub(crate) fn recall(pairs: &[u32], x: u16, y: u16) -> Option<u16>
     ensures { Recalled pairs.now x y result }
 {
     let key = key(x, y);
-    let Some(i) = slot(pairs.len(), key) else {
-        return None;
-    };
+    let i = slot(pairs.len(), key)?;
     let form = pairs[2 * i + 1];
     if pairs[2 * i] != key || form >= 16384 {
         return None;

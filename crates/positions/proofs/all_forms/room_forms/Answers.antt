@@ -1,26 +1,27 @@
-use Rattle.std.proofs.Common.{length, get_or, vec_items, sym, ap, ◌∙◌, subst, arith}
+use Rattle.std.proofs.Common.{rules, length, get_or, vec_items, sym, ap, ◌∙◌, subst, arith}
 use Rattle.positions.specs.Forming.{LeadsTo}
 use Rattle.positions.specs.Reach.{stay}
-use Rattle.positions.proofs.Law.{forgets, formed_room, not_formed, sets_long}
+use Rattle.positions.proofs.Law.{zeros, forgets, formed_room, not_formed, sets_long}
 use Rattle.positions.proofs.Turns.{noted_fits}
 use Rattle.positions.proofs.all_forms.room_forms.Goals as goal
 
 pub form-requires : goal.form-requires
-form-requires c = record {
-  ground = c.requires.ground;
-  table = c.requires.table;
-  long = sets_long c.args.positions.now c.clear.new.sets c.full-full.result _ c.clear.auto.sets c.full-full.ensures c.requires.long;
-  memory = forgets c.args.room.now _ _ _ c.clear.new.sets c.clear.ensures;
-  reached = subst (LeadsTo c.args.room.now) (sym c.full-full.ensures) stay;
-}
+form-requires c =
+    let cleared = c.fill.ensures.after (search rules) in
+    record {
+      table = c.requires.table;
+      long = sets_long c.args.positions.now c.fill.new.self c.full-full.result _ c.fill.ensures.len c.full-full.ensures c.requires.long;
+      memory = forgets c.args.room.now _ _ _ c.fill.new.self (zeros _ _ cleared);
+      reached = subst (LeadsTo c.args.room.now) (sym c.full-full.ensures) stay;
+    }
 
 pub returns-in-Err : goal.returns-in-Err
-returns-in-Err c = not_formed c.args.room.now c.requires.ground _ _ _ _ _ _ c.in-Err.ensures
+returns-in-Err c = not_formed c.args.room.now c.args.room.now.ground _ _ _ _ _ _ c.in-Err.ensures
 
 pub returns : goal.returns
 returns c =
     let found = c.in-Ok.ensures in
-    formed_room c.args.room.now c.requires.ground _ _ _ _ _ c.clear.new.sets c.form.new.positions _ _ (length c.form.new.positions) (vec_items c.in-Ok-noted_forms.all)
+    formed_room c.args.room.now c.args.room.now.ground _ _ _ _ _ c.fill.new.self c.form.new.positions _ _ (length c.form.new.positions) (vec_items c.in-Ok-noted_forms.all)
     (found.0, ap (λ x. get_or c.form.new.positions x 0) (sym c.full-full.ensures) ∙ found.1) (omega arith) c.in-Ok-noted_forms.ensures
 
 pub noted_forms-requires : goal.noted_forms-requires

@@ -46,7 +46,7 @@ form-returns-in-Err-canonical t c =
     let rows = (goal.at.form-returns-in-Err-canonical t c).After-as_slice-2 in
     let end = c.in-Err-canonical.ensures in
     failed_on c.args.room.now _ _ _ _ _ _ _ _ _ _ (went_on c.args.room.now _ _ _ _ _ _ _ _ _ _ _ _ first second) _
-    (unplaced c.args.room.now c.args.set _ _ _ _ c.as_slice.result.now c.as_slice-2.result.now second.grows.table second.memory (upright_row t rows) (flat_row t rows) c.requires.ground c.requires.reached
+    (unplaced c.args.room.now c.args.set _ _ _ _ c.as_slice.result.now c.as_slice-2.result.now second.grows.table second.memory (upright_row t rows) (flat_row t rows) c.args.room.now.ground c.requires.reached
     c.canonical.new.forms c.canonical.new.options c.in-Err-canonical.e end.0 end.1 end.2)
 
 pub form-returns : goal.form-returns
@@ -55,7 +55,7 @@ form-returns t c =
     let second = c.in-Ok-option_row.ensures.0 in
     let rows = (goal.at.form-returns t c).After-as_slice-2 in
     let end =
-    placed c.args.room.now c.args.set _ _ _ _ c.as_slice.result.now c.as_slice-2.result.now second.grows.table second.memory (upright_row t rows) (flat_row t rows) c.requires.ground c.requires.reached
+    placed c.args.room.now c.args.set _ _ _ _ c.as_slice.result.now c.as_slice-2.result.now second.grows.table second.memory (upright_row t rows) (flat_row t rows) c.args.room.now.ground c.requires.reached
     c.canonical.new.forms c.canonical.new.options c.in-Ok-canonical.placed.form c.in-Ok-canonical.placed.used c.canonical.auto.forms
     (let a = c.option_row.auto.positions in let b = c.option_row-2.auto.positions in let l = c.requires.long in let f = leads_le (length (room_squares c.args.room.now)) (moves_of c.args.room.now) c.requires.reached in omega arith)
     c.in-Ok-canonical.ensures in
@@ -64,15 +64,15 @@ form-returns t c =
 pub option_row-form-requires : goal.option_row-form-requires
 option_row-form-requires t c =
     let at = c.in-Some.ensures in
-    let less = fewer_ones (grid_of c.args.room.now.board) (room_squares c.args.room.now) (moves_of c.args.room.now) c.requires.ground c.args.set c.ranges.set.fits (side_of c.args.side) c.loop-i.i at.0 in (
+    let less = fewer_ones (grid_of c.args.room.now.board) (room_squares c.args.room.now) (moves_of c.args.room.now) c.args.room.now.ground c.args.set c.ranges.set.fits (side_of c.args.side) c.loop-i.i at.0 in (
       let same = ap ones at.1 in omega (arith, c.decreases),
       (
-        c.requires.ground,
+        c.loop-i.invariant.0.grows.table,
         (
-          c.loop-i.invariant.0.grows.table,
+          omega arith,
           (
-            omega arith,
-            (c.loop-i.invariant.0.memory, subst (LeadsTo c.args.room.now) (sym at.1) (leads_one (length (room_squares c.args.room.now)) (moves_of c.args.room.now) (side_of c.args.side) c.loop-i.i c.requires.reached at.0)),
+            c.loop-i.invariant.0.memory,
+            subst (LeadsTo c.args.room.now) (sym at.1) (leads_one (length (room_squares c.args.room.now)) (moves_of c.args.room.now) (side_of c.args.side) c.loop-i.i c.requires.reached at.0),
           ),
         ),
       ),

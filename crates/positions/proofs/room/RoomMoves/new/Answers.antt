@@ -1,45 +1,30 @@
-use Rattle.std.proofs.Common.{length, sym, refl, ap, subst, arith}
+use Rattle.std.proofs.Common.{rules, ◌≡◌, ℕ, ◌<◌, true, false, length, slice_index, IfSome, ap, subst, arith}
 use Rattle.board.specs.Values.{grid_of}
-use Rattle.rooms.specs.Walks.{Rise}
-use Rattle.positions.proofs.Making.{made_none, made_more, made_all, MadeTo}
+use Rattle.rooms.specs.Values.{squares_of}
+use Rattle.positions.specs.Sets.{Move, row_for, set_in}
 use Rattle.rooms.proofs.Finding.{squares_few}
 use Rattle.positions.proofs.room.RoomMoves.new.Goals as goal
 
-pub loop-i-init : goal.loop-i-init
-loop-i-init c = made_none (grid_of c.args.board.now) c.squares-squares.result.now
+pub row_of-requires-clause-few : goal.row_of-requires-clause-few
+row_of-requires-clause-few c = let few = squares_few c.args.room.now in let long = ap length c.squares-squares.ensures in omega arith
 
-pub move_at-requires : goal.move_at-requires
-move_at-requires c =
+pub row_of-requires-2-clause-few : goal.row_of-requires-2-clause-few
+row_of-requires-2-clause-few c = let few = squares_few c.args.room.now in let long = ap length c.squares-squares.ensures in omega arith
+
+pub invariant_of-result : goal.invariant_of-result
+invariant_of-result c =
     let few = squares_few c.args.room.now in
-    let long = ap length c.squares-squares.ensures in
-    record { few = omega arith; rising = subst (Rise (λ q. q)) (sym c.squares-squares.ensures) c.requires.room.rising; low = c.loop-i-test.true }
-
-pub move_at-requires-in-loop-i : goal.move_at-requires-in-loop-i
-move_at-requires-in-loop-i c =
-    let few = squares_few c.args.room.now in
-    let long = ap length c.squares-squares.ensures in
-    record { few = omega arith; rising = subst (Rise (λ q. q)) (sym c.squares-squares.ensures) c.requires.room.rising; low = c.loop-i-test.true }
-
-pub bounds-upright-i : goal.bounds-upright-i
-bounds-upright-i c = let few = squares_few c.args.room.now in let long = ap length c.squares-squares.ensures in omega arith
-
-pub bounds-flat-i : goal.bounds-flat-i
-bounds-flat-i c = let few = squares_few c.args.room.now in let long = ap length c.squares-squares.ensures in omega arith
-
-pub loop-i-preserved : goal.loop-i-preserved
-loop-i-preserved c =
-    let few = squares_few c.args.room.now in
-    let long = ap length c.squares-squares.ensures in
-    made_more (grid_of c.args.board.now) c.squares-squares.result.now c.loop-i.upright c.loop-i.flat _ _ _
-    (omega arith) c.move_at.type_inv c.move_at-in-loop-i.type_inv c.loop-i.invariant c.move_at.ensures c.move_at-in-loop-i.ensures
-
-pub returns : goal.returns
-returns c =
-    let few = squares_few c.args.room.now in
+    let same = c.squares-squares.ensures in
     record {
-      board = refl;
-      room = refl;
-      ground =
-          made_all (grid_of c.args.board.now) _ c.loop-i.upright c.loop-i.flat c.loop-i.i (let long = ap length c.squares-squares.ensures in omega arith) few c.requires.room
-          (subst (λ l. MadeTo (grid_of c.args.board.now) l c.loop-i.upright c.loop-i.flat c.loop-i.i) c.squares-squares.ensures c.loop-i.invariant);
+      ground = record {
+        inside = c.requires.room.inside;
+        rising = c.requires.room.rising;
+        few = few;
+        places = λ s. elim s as (λ t. length (row_for t c.row_of.result c.row_of-2.result) ≡ 16) [ true ↦ search rules | false ↦ search rules ];
+        small = λ s. elim s as (λ t. (i : ℕ) → IfSome (set_in (row_for t c.row_of.result c.row_of-2.result) i) (λ m. m < 65536)) [ true ↦ c.row_of.ensures.small | false ↦ c.row_of-2.ensures.small ];
+        each = λ s. elim s as (λ t. (i : ℕ) → i < length (squares_of c.args.room.now) → Move (grid_of c.args.board.now) (squares_of c.args.room.now) t (slice_index (squares_of c.args.room.now) i) (set_in (row_for t c.row_of.result c.row_of-2.result) i)) [
+          | true ↦ subst (λ l. (i : ℕ) → i < length l → Move (grid_of c.args.board.now) l true (slice_index l i) (set_in c.row_of.result i)) same c.row_of.ensures.each
+          | false ↦ subst (λ l. (i : ℕ) → i < length l → Move (grid_of c.args.board.now) l false (slice_index l i) (set_in c.row_of-2.result i)) same c.row_of-2.ensures.each
+        ];
+      };
     }
