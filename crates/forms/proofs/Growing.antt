@@ -6,6 +6,8 @@ use Rattle.std.proofs.lemmas.Bool.{cases_lt}
 use Rattle.games.specs.Game.{Side, game}
 use Rattle.games.specs.Canonical.{Canonical}
 use Rattle.forms.specs.declared.rows.Form.{Form}
+use Rattle.forms.specs.declared.table.Table.{Table as Lent}
+use Rattle.forms.specs.Values.{SameRows}
 use Rattle.forms.specs.Rows.{blank, many, row_of, row_for, Rising}
 use Rattle.forms.specs.Meaning.{listed, meant, meaning, given}
 use Rattle.forms.specs.Soundness.{Sound}
@@ -75,3 +77,7 @@ module _
         canonical = each (λ k. Canonical (meaning gs ps k)) (λ k h. subst Canonical (sym (kept_more.games k h)) (sound.canonical k h)) (subst Canonical (sym meaning_new) fresh.canonical);
         apart = apart_more;
       }
+
+-- a table that stays in its rows, and stays in them
+pub same_on : {t u v : Lent} → SameRows t u → SameRows u v → SameRows t v
+same_on a b = record { forms = b.forms ∙ a.forms; options = b.options ∙ a.options; places = b.places ∙ a.places; space = b.space ∙ a.space }

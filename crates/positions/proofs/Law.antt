@@ -1,5 +1,5 @@
 -- What the game of a board reaches; and the whole answer for a room.
-use Rattle.std.proofs.Common.{◌≡◌, ℕ, suc, ◌+◌, ◌-◌, ◌/◌, ◌%◌, ◌^◌, ◌<◌, ◌≤◌, true, List, [], ◌∷◌, length, get_or, take, drop, replicate, Err, sym, refl, ap, ◌∙◌, subst, ⊎_elim, pow-suc, arith, pow_pos}
+use Rattle.std.proofs.Common.{◌≡◌, ℕ, suc, ◌+◌, ◌-◌, ◌/◌, ◌%◌, ◌^◌, ◌<◌, ◌≤◌, true, List, [], ◌∷◌, length, get_or, take, replicate, Err, sym, refl, ap, ◌∙◌, subst, ⊎_elim, pow-suc, arith, pow_pos}
 use Rattle.std.specs.List.{ContainsAt as Has}
 use Rattle.std.proofs.lemmas.List.{get_or-replicate, get_or_past, length-replicate, length-take}
 use Rattle.std.proofs.lemmas.Bool.{cases_lt, eq-eqb}
@@ -22,6 +22,7 @@ use Rattle.positions.proofs.Played.{leads_comes, comes_leads}
 use Rattle.positions.proofs.Growth.{grows_as}
 use Rattle.positions.proofs.Forming.{noted_form, noted_on}
 use Rattle.forms.specs.declared.rows.Form.{Form}
+use Rattle.forms.specs.declared.table.Table.{Table as Lent}
 use Rattle.forms.specs.Meaning.{meaning}
 use Rattle.forms.proofs.Risings.{has_none}
 use Rattle.canonical.specs.Reducing.{Inserted}
@@ -132,16 +133,16 @@ module _ (r : RoomMoves) (ground : GroundOf r) (fs : List Form) (os : List ℕ) 
       }
 
 -- or why there is none
-pub not_formed : (r : RoomMoves) → GroundOf r → (fs : List Form) (os : List ℕ) (n : ℕ) (gs : List Form) (qs : List ℕ) (e : Refusal) → Failed r fs os n gs qs e → RoomAnswer (grid_of r.board) (room_squares r) fs os n gs qs (Err e)
-not_formed r ground fs os n gs qs Full f = record {
-  grows = grows_as (KindOf r) (PositionOf (grid_of r.board) (room_squares r)) (kind_position r ground) fs os n gs qs (length fs) f.grows;
+pub not_formed : (r : RoomMoves) → GroundOf r → (t u : Lent) (e : Refusal) → Failed r t.forms.now t.options.now t.used u.forms.now u.options.now e → RoomAnswer (grid_of r.board) (room_squares r) t u (Err e)
+not_formed r ground t u Full f = record {
+  grows = grows_as (KindOf r) (PositionOf (grid_of r.board) (room_squares r)) (kind_position r ground) t.forms.now t.options.now t.used u.forms.now u.options.now (length t.forms.now) f.grows;
   game = f.game;
   kind = kind_position r ground f.game f.kind;
   apart = f.apart;
 }
-not_formed r ground fs os n gs qs Wide f = record { form = f.form; canonical = f.canonical; kind = kind_position r ground f.form f.kind; wide = f.wide }
-not_formed r ground fs os n gs qs NoMemory f = tt
+not_formed r ground t u Wide f = record { form = f.form; canonical = f.canonical; kind = kind_position r ground f.form f.kind; wide = f.wide }
+not_formed r ground t u NoMemory f = tt
 
 -- the part of the row that is for the sets of the room
-pub sets_long : (ps part : List ℕ) (f full : ℕ) → length part ≡ length (take (f + 1 - 0) (drop 0 ps)) → f ≡ full → full < length ps → full < length part
-sets_long ps part f full kept same enough = let long = length-take (f + 1 - 0) ps in omega arith
+pub sets_long : (ps part : List ℕ) (f full : ℕ) → length part ≡ length (take (f + 1) ps) → f ≡ full → full < length ps → full < length part
+sets_long ps part f full kept same enough = let long = length-take (f + 1) ps in omega arith

@@ -6,6 +6,7 @@ use Rattle.games.proofs.Sides.{equal_refl, equal_sym, equal_trans}
 use Rattle.std.proofs.lemmas.List.{get_or-set_same, get_or-set_other}
 use Rattle.std.proofs.lemmas.Bool.{cases_eq, cases_lt}
 use Rattle.forms.specs.declared.rows.Form.{Form}
+use Rattle.forms.specs.declared.table.Table.{Table as Lent}
 use Rattle.forms.specs.Rows.{row_for}
 use Rattle.forms.specs.Meaning.{meaning, given}
 use Rattle.forms.specs.Links.{Table}
@@ -32,6 +33,14 @@ family_of r ground = record {
   to = in_game (grid_of r.board) (room_squares r) (moves_of r) ground;
   from = λ at s. of_game (grid_of r.board) (room_squares r) (moves_of r) ground at s (λ x. (i : ℕ) × CanOf r at s i × (x ≡ game_of_set r (at - move_set r s i))) (λ i can. (i, can, refl));
 }
+
+-- the forms of what all moves of a side make of a set
+abbrev pub RowIn : RoomMoves → ℕ → Side → Lent → List ℕ → List ℕ → Type 0
+RowIn r at s t ps row = RowOf r at s (length (room_squares r)) t.forms.now t.options.now t.used ps row
+
+-- those of its moves at the first k squares, found while a table grew
+abbrev pub RowSoFar : RoomMoves → ℕ → Side → ℕ → Lent → List ℕ → Lent → List ℕ → List ℕ → Type 0
+RowSoFar r at s k t ps u rs row = Went r t.forms.now t.options.now t.used ps u.forms.now u.options.now u.used rs × RowOf r at s k u.forms.now u.options.now u.used rs row
 
 module _ (r : RoomMoves) where
   pub went_on : (fs : List Form) (os : List ℕ) (n : ℕ) (ps : List ℕ) (gs : List Form) (qs : List ℕ) (u : ℕ) (rs : List ℕ) (hs : List Form) (ws : List ℕ) (v : ℕ) (ts : List ℕ) →

@@ -7,6 +7,7 @@ use Rattle.board.specs.Grid.{Grid, free_count}
 use Rattle.board.specs.Tree.{tree}
 use Rattle.rooms.specs.Games.{through}
 use Rattle.forms.specs.declared.rows.Form.{Form}
+use Rattle.forms.specs.declared.table.Table.{Table as Lent}
 use Rattle.forms.specs.Meaning.{meaning}
 use Rattle.forms.specs.Rows.{Rising}
 use Rattle.canonical.specs.declared.canonical.Refusal.{Refusal}
@@ -35,11 +36,11 @@ pub record FormedRoom (b : Grid) (qs : List ℕ) (fs : List Form) (os : List ℕ
   pub whole : (c : Grid) → Comes (through b qs) c → (w : ℕ) × Has all w × Equal (meaning (take u gs) ps w) (tree (free_count b.cells) c)
 
 -- the forms of a room; or the table grew by such forms until it was full, and one more is wanted; or one is too wide; or memory is wanting
-abbrev pub RoomAnswer : Grid → List ℕ → List Form → List ℕ → ℕ → List Form → List ℕ → Result RoomForms Refusal → Type 0
-RoomAnswer b qs fs os n gs ps (Ok x) = FormedRoom b qs fs os n gs ps x.own (vec_items x.all) x.used
-RoomAnswer b qs fs os n gs ps (Err Full) = Overfull (PositionOf b qs) fs os n gs ps
-RoomAnswer b qs fs os n gs ps (Err Wide) = IsTooWide (PositionOf b qs)
-RoomAnswer b qs fs os n gs ps (Err NoMemory) = Unit {0}
+abbrev pub RoomAnswer : Grid → List ℕ → Lent → Lent → Result RoomForms Refusal → Type 0
+RoomAnswer b qs t u (Ok x) = FormedRoom b qs t.forms.now t.options.now t.used u.forms.now u.options.now x.own (vec_items x.all) u.used
+RoomAnswer b qs t u (Err Full) = Overfull (PositionOf b qs) t.forms.now t.options.now t.used u.forms.now u.options.now
+RoomAnswer b qs t u (Err Wide) = IsTooWide (PositionOf b qs)
+RoomAnswer b qs t u (Err NoMemory) = Unit {0}
 
 -- what the game of a board reaches over options are the games of the boards that planks make of it
 unfoldable pub PositionsLaw : Type 0

@@ -1,9 +1,10 @@
 -- What finding the form of a position answers, and what lent memory holds after.
-use Rattle.std.specs.Prelude.{◌≡◌, ℕ, suc, List, length, Ok, Err, vec_items, Result, slice_index}
+use Rattle.std.specs.Prelude.{◌≡◌, ℕ, suc, List, length, Ok, Err, vec_items, Result, Vec, slice_index}
+use Rattle.std.specs.declared.alloc.Global.{Global}
 use Rattle.games.specs.Game.{Game}
 use Rattle.board.specs.Grid.{Side}
 use Rattle.forms.specs.declared.rows.Form.{Form}
-use Rattle.canonical.specs.declared.canonical.Placed.{Placed}
+use Rattle.forms.specs.declared.table.Table.{Table as Lent}
 use Rattle.canonical.specs.declared.canonical.Refusal.{Refusal}
 use Rattle.canonical.specs.declared.canonical.Refusal.TheVariants.{Full, Wide, NoMemory}
 use Rattle.positions.specs.Growing.{Grows, Overfull, IsTooWide}
@@ -11,7 +12,6 @@ use Rattle.positions.specs.Memory.{OfSet, Noted, Remembers, Row}
 use Rattle.positions.specs.Reach.{Leads}
 use Rattle.positions.specs.Values.{room_squares, moves_of, full_of, game_of_set}
 use Rattle.positions.specs.declared.room.RoomMoves.{RoomMoves}
-use Rattle.positions.specs.declared.form.OptionRow.{OptionRow}
 
 -- moves lead to this set from that of all squares of the room
 abbrev pub LeadsTo : RoomMoves → ℕ → Type 0
@@ -41,12 +41,17 @@ Failed r fs os n gs qs Full = Overfull (KindOf r) fs os n gs qs
 Failed r fs os n gs qs Wide = IsTooWide (KindOf r)
 Failed r fs os n gs qs NoMemory = Unit {0}
 
+-- what is remembered of the room's positions is right for a table
+abbrev pub Remembered : RoomMoves → Lent → List ℕ → Type 0
+Remembered r t ps = MemoryOf r t.forms.now t.options.now t.used ps
+
 -- the form of a set is found and noted
-abbrev pub Formed : RoomMoves → ℕ → List Form → List ℕ → ℕ → List ℕ → List Form → List ℕ → List ℕ → Result Placed Refusal → Type 0
-Formed r set fs os n ps gs qs rs (Ok x) = Went r fs os n ps gs qs x.used rs × (slice_index rs set ≡ suc x.form)
-Formed r set fs os n ps gs qs rs (Err e) = Failed r fs os n gs qs e
+abbrev pub Formed : RoomMoves → ℕ → Lent → List ℕ → Lent → List ℕ → Result ℕ Refusal → Type 0
+Formed r set t ps u rs (Ok k) = Went r t.forms.now t.options.now t.used ps u.forms.now u.options.now u.used rs × (slice_index rs set ≡ suc k)
+Formed r set t ps u rs (Err e) = Failed r t.forms.now t.options.now t.used u.forms.now u.options.now e
 
 -- the row of a side's options at a set is found
-abbrev pub RowFormed : RoomMoves → ℕ → Side → List Form → List ℕ → ℕ → List ℕ → List Form → List ℕ → List ℕ → Result OptionRow Refusal → Type 0
-RowFormed r set s fs os n ps gs qs rs (Ok x) = Went r fs os n ps gs qs x.used rs × RowOf r set s (length (room_squares r)) gs qs x.used rs (vec_items x.row)
-RowFormed r set s fs os n ps gs qs rs (Err e) = Failed r fs os n gs qs e
+abbrev pub RowFormed : RoomMoves → ℕ → Side → Lent → List ℕ → Lent → List ℕ → Result (Vec ℕ Global) Refusal → Type 0
+RowFormed r set s t ps u rs (Ok row) =
+    Went r t.forms.now t.options.now t.used ps u.forms.now u.options.now u.used rs × RowOf r set s (length (room_squares r)) u.forms.now u.options.now u.used rs (vec_items row)
+RowFormed r set s t ps u rs (Err e) = Failed r t.forms.now t.options.now t.used u.forms.now u.options.now e

@@ -1,7 +1,7 @@
 // The forms of a room: its own, and those of all its positions.
 ghost use Rattle.std.specs.Prelude.{◌≡◌, ℕ, ◌<◌, ◌≤◌, length, IfOk, slice_index};
 ghost use Rattle.board.specs.Values.{grid_of};
-ghost use Rattle.forms.specs.Links.{Table};
+ghost use Rattle.forms.specs.Values.{IsTable, SameRows};
 ghost use Rattle.positions.specs.Answers.{Listed, RoomAnswer, PositionsLaw};
 ghost use Rattle.positions.specs.Values.{room_squares, full_of};
 
@@ -9,45 +9,34 @@ use crate::form::form;
 use crate::room::RoomMoves;
 use canonical::canonical::Refusal;
 use canonical::rising::insert;
-use forms::rows::Form;
+use forms::table::Table;
 use std::alloc::{AllocError, Global};
 
-// The room's own form, the forms of all its positions, rising, and how many forms are in use.
+// The room's own form, and the forms of all its positions, rising.
 #[derive(Drop)]
 pub struct RoomForms {
     pub own: u16,
     pub all: Vec<u16>,
-    pub used: u16,
 }
 
 // The forms of a room at all its positions. What is known of its sets is kept in `positions`, which is cleared first.
 pub fn room_forms(
     heap: Global,
     room: &RoomMoves,
-    forms: &mut [Form],
-    options: &mut [u16],
+    table: &mut Table,
     positions: &mut [u32],
-    used: u16,
 ) -> Result<RoomForms, Refusal>
-    requires table { Table forms.old options.old used }
+    requires table { IsTable table.old }
     requires long { full_of room.now < length positions.old }
-    ensures { RoomAnswer (grid_of room.now.board) (room_squares room.now) forms.old options.old used forms.new options.new result }
+    ensures answer { RoomAnswer (grid_of room.now.board) (room_squares room.now) table.old table.new result }
+    ensures same { SameRows table.old table.new }
 {
     let full = room.full();
-    let sets = &mut positions[0..full as usize + 1];
+    let sets = &mut positions[..full as usize + 1];
     sets.fill(0);
-    let own = match form(heap, room, forms, options, sets, used, full) {
-        Ok(own) => own,
-        Err(e) => return Err(e),
-    };
-    let Ok(all) = noted_forms(heap, sets) else {
-        return Err(Refusal::NoMemory);
-    };
-    Ok(RoomForms {
-        own: own.form,
-        all,
-        used: own.used,
-    })
+    let own = form(heap, room, table, sets, full)?;
+    let all = noted_forms(heap, sets)?;
+    Ok(RoomForms { own, all })
 }
 
 // The forms that are noted of any set, rising.

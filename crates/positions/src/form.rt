@@ -1,83 +1,46 @@
 // The forms of positions: that of a set is made of the forms of what the moves leave of it.
 ghost use Rattle.std.specs.Prelude.{◌≡◌, suc, ◌<◌, ◌≤◌, length, MatchOption, slice_index};
-ghost use Rattle.forms.specs.Links.{Table};
 ghost use Rattle.board.specs.Values.{side_of};
-ghost use Rattle.positions.specs.Forming.{LeadsTo, MemoryOf, Formed, RowFormed};
+ghost use Rattle.forms.specs.Values.{IsTable, SameRows};
+ghost use Rattle.positions.specs.Forming.{LeadsTo, Remembered, Formed, RowFormed};
 ghost use Rattle.positions.specs.Values.{full_of};
 
 use crate::room::RoomMoves;
 use board::side::Side;
-use canonical::canonical::{Placed, Refusal, canonical};
+use canonical::canonical::{Refusal, canonical};
 use canonical::rising::insert;
-use forms::rows::Form;
+use forms::rows::Rows;
+use forms::table::Table;
 use std::alloc::Global;
-
-// The forms of what a side may make of a position, rising, and how many forms are in use.
-#[derive(Drop)]
-pub struct OptionRow {
-    pub row: Vec<u16>,
-    pub used: u16,
-}
 
 // The form of the position at a set of squares. What is known of a set is kept in `positions`: 0, or one more than the number of its form.
 #[cycle(form_option_row)]
 pub fn form(
     heap: Global,
     room: &RoomMoves,
-    forms: &mut [Form],
-    options: &mut [u16],
+    table: &mut Table,
     positions: &mut [u32],
-    used: u16,
     set: u16,
-) -> Result<Placed, Refusal>
-    requires table { Table forms.old options.old used }
+) -> Result<u16, Refusal>
+    requires table { IsTable table.old }
     requires long { full_of room.now < length positions.old }
-    requires memory { MemoryOf room.now forms.old options.old used positions.old }
+    requires memory { Remembered room.now table.old positions.old }
     requires reached { LeadsTo room.now set }
-    ensures { Formed room.now set forms.old options.old used positions.old forms.new options.new positions.new result }
+    ensures answer { Formed room.now set table.old positions.old table.new positions.new result }
+    ensures same { SameRows table.old table.new }
 {
-    if let Some(form) = recall(positions, set) {
-        return Ok(Placed { form, used });
+    if let Some(known) = recall(positions, set) {
+        return Ok(known);
     }
-    let upright = match option_row(
-        heap,
-        room,
-        forms,
-        options,
-        positions,
-        used,
-        set,
-        Side::Upright,
-    ) {
-        Ok(row) => row,
-        Err(e) => return Err(e),
+    let upright = option_row(heap, room, table, positions, set, Side::Upright)?;
+    let flat = option_row(heap, room, table, positions, set, Side::Flat)?;
+    let rows = Rows {
+        upright: upright.as_slice(),
+        flat: flat.as_slice(),
     };
-    let flat = match option_row(
-        heap,
-        room,
-        forms,
-        options,
-        positions,
-        upright.used,
-        set,
-        Side::Flat,
-    ) {
-        Ok(row) => row,
-        Err(e) => return Err(e),
-    };
-    let placed = match canonical(
-        heap,
-        forms,
-        options,
-        flat.used,
-        upright.row.as_slice(),
-        flat.row.as_slice(),
-    ) {
-        Ok(placed) => placed,
-        Err(e) => return Err(e),
-    };
-    positions[set as usize] = placed.form as u32 + 1;
-    Ok(placed)
+    let found = canonical(heap, table, rows)?;
+    positions[set as usize] = found as u32 + 1;
+    Ok(found)
 }
 
 // The form that is noted of a set.
@@ -93,38 +56,30 @@ fn recall(positions: &[u32], set: u16) -> Option<u16>
     Some((noted - 1) as u16)
 }
 
-// The forms of what a side may make of the position at a set.
+// The forms of what a side may make of the position at a set, rising.
 #[cycle(form_option_row)]
 fn option_row(
     heap: Global,
     room: &RoomMoves,
-    forms: &mut [Form],
-    options: &mut [u16],
+    table: &mut Table,
     positions: &mut [u32],
-    used: u16,
     set: u16,
     side: Side,
-) -> Result<OptionRow, Refusal>
-    requires table { Table forms.old options.old used }
+) -> Result<Vec<u16>, Refusal>
+    requires table { IsTable table.old }
     requires long { full_of room.now < length positions.old }
-    requires memory { MemoryOf room.now forms.old options.old used positions.old }
+    requires memory { Remembered room.now table.old positions.old }
     requires reached { LeadsTo room.now set }
-    ensures { RowFormed room.now set (side_of side) forms.old options.old used positions.old forms.new options.new positions.new result }
+    ensures answer { RowFormed room.now set (side_of side) table.old positions.old table.new positions.new result }
+    ensures same { SameRows table.old table.new }
 {
     let mut row = Vec::new(heap);
-    let mut grown = used;
     for i in 0..room.len() {
         let Some(rest) = room.after(set, side, i) else {
             continue;
         };
-        let placed = match form(heap, room, forms, options, positions, grown, rest) {
-            Ok(placed) => placed,
-            Err(e) => return Err(e),
-        };
-        let Ok(()) = insert(&mut row, placed.form) else {
-            return Err(Refusal::NoMemory);
-        };
-        grown = placed.used;
+        let found = form(heap, room, table, positions, rest)?;
+        insert(&mut row, found)?;
     }
-    Ok(OptionRow { row, used: grown })
+    Ok(row)
 }

@@ -1,7 +1,8 @@
 use Rattle.std.proofs.Common.{◌+◌, ◌*◌, vec_items}
 use lib.Count.{ones}
 use Rattle.board.specs.Values.{side_of}
-use Rattle.positions.specs.Forming.{Went, RowOf}
+use Rattle.forms.specs.Values.{SameRows}
+use Rattle.positions.proofs.Turns.{RowSoFar}
 use Rattle.positions.proofs.form.+form_option_row.Given as goal
 
 abbrev pub decreases-form : goal.decreases-form
@@ -12,5 +13,5 @@ decreases-option_row l = 2 * ones l.set
 
 abbrev pub invariant-option_row-loop-i : goal.invariant-option_row-loop-i
 invariant-option_row-loop-i l =
-    Went l.room l.initial.forms l.initial.options l.used l.initial.positions l.forms l.options l.grown l.positions
-    × RowOf l.room l.set (side_of l.side) l.i l.forms l.options l.grown l.positions (vec_items l.row)
+    RowSoFar l.room l.set (side_of l.side) l.i l.initial.table l.initial.positions l.table l.positions (vec_items l.row)
+    × SameRows l.initial.table l.table
