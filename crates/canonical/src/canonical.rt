@@ -11,7 +11,7 @@ use crate::thin::thin;
 use board::side::Side;
 use forms::rows::{Forms, Rows};
 use forms::table::Table;
-use std::alloc::{AllocError, Global};
+use std::alloc::{AllocError, AllocFailed, Global};
 
 // Why a game has no form here: the table is full, the form has more than 16 options for a player, or memory is wanting.
 #[derive(Clone, Copy, Drop)]
@@ -28,6 +28,16 @@ impl From<AllocError> for Refusal {
 
     fn from(_: AllocError) -> Refusal {
         Refusal::NoMemory
+    }
+}
+
+impl<T: Drop> From<AllocFailed<T>> for Refusal {
+    ghost use Rattle.canonical.specs.declared.canonical.Refusal.TheVariants.{NoMemory};
+
+    ghost from_gives = { λ _ e. e ≡ NoMemory };
+
+    fn from(e: AllocFailed<T>) -> Refusal {
+        AllocError::from(e).into()
     }
 }
 

@@ -1,5 +1,5 @@
 -- The sums of pairs, step by step.
-use Rattle.std.proofs.Common.{◌≡◌, ℕ, ◌+◌, ◌<◌, ◌⊎◌, List, length, get_or, take, Ok, Err, sym, refl, ap, ◌∙◌, subst, inl, inr, ⊎_elim, arith}
+use Rattle.std.proofs.Common.{◌≡◌, ℕ, ◌+◌, ◌<◌, ◌⊎◌, List, length, get_or, take, Ok, sym, refl, ap, ◌∙◌, subst, inl, inr, ⊎_elim, arith}
 use Rattle.std.specs.List.{ContainsAt as Has, AllByRecursion as Every}
 use Rattle.std.proofs.ByRecursion.{All-get_or, all-has}
 use Rattle.games.specs.Game.{Game}
@@ -7,9 +7,7 @@ use Rattle.games.specs.Count.{Between}
 use Rattle.forms.specs.declared.rows.Form.{Form}
 use Rattle.forms.specs.Meaning.{meaning}
 use Rattle.forms.specs.Links.{Table}
-use Rattle.canonical.specs.declared.canonical.Placed.{Placed}
 use Rattle.canonical.specs.declared.canonical.Refusal.{Refusal}
-use Rattle.canonical.specs.declared.canonical.Refusal.TheVariants.{Full, Wide, NoMemory}
 use Rattle.canonical.proofs.Inserting.{has_take}
 use Rattle.positions.proofs.Growth.{grows_as, grows_none, grows_on, grows_far, grows_meaning}
 use Rattle.sums.specs.Sums.{Adds, SummedUp, Stopped}
@@ -26,29 +24,23 @@ abbrev pub OnePair : Game → Game → Game → Game → Type 0
 OnePair g h x y = (x ≡ g) × (y ≡ h)
 
 -- what adding two forms answers, as the answer for one pair
-pub as_answer : (fs : List Form) (os : List ℕ) (n x y : ℕ) (gs : List Form) (qs rs : List ℕ) (a : Placed) → SummedUp fs os n x y gs qs rs (Ok a) →
-    SumsAnswer (OnePair (meaning (take n fs) os x) (meaning (take n fs) os y)) fs os n gs qs rs (Ok a.used)
-as_answer fs os n x y gs qs rs a s = (
+pub as_answer : (fs : List Form) (os : List ℕ) (n x y : ℕ) (gs : List Form) (qs : List ℕ) (u : ℕ) (rs : List ℕ) (k : ℕ) → SummedUp fs os n x y gs qs u rs (Ok k) →
+    SumsAnswer (OnePair (meaning (take n fs) os x) (meaning (take n fs) os y)) fs os n gs qs u rs (Ok tt)
+as_answer fs os n x y gs qs u rs k s = (
   record {
     grows = grows_as (Between (meaning (take n fs) os x) (meaning (take n fs) os y)) (OfPairs (OnePair (meaning (take n fs) os x) (meaning (take n fs) os y)))
-        (λ f b. (meaning (take n fs) os x, meaning (take n fs) os y, (refl, refl), b)) fs os n gs qs a.used s.0;
-    whole = λ v w e. (a.form, s.1, subst (λ z. Adds z w (meaning (take a.used gs) qs a.form)) (sym e.0) (subst (λ z. Adds (meaning (take n fs) os x) z (meaning (take a.used gs) qs a.form)) (sym e.1) s.2));
+        (λ f b. (meaning (take n fs) os x, meaning (take n fs) os y, (refl, refl), b)) fs os n gs qs u s.0;
+    whole = λ v w e. (k, s.1, subst (λ z. Adds z w (meaning (take u gs) qs k)) (sym e.0) (subst (λ z. Adds (meaning (take n fs) os x) z (meaning (take u gs) qs k)) (sym e.1) s.2));
   },
   s.3,
 )
 
 -- so also where there is no answer
-pub as_stopped : (fs : List Form) (os : List ℕ) (n x y : ℕ) (gs : List Form) (qs rs : List ℕ) (e : Refusal) → SummedUp fs os n x y gs qs rs (Err e) →
-    Stopped (Between (meaning (take n fs) os x) (meaning (take n fs) os y)) fs os n gs qs e
-as_stopped fs os n x y gs qs rs Full s = s
-as_stopped fs os n x y gs qs rs Wide s = s
-as_stopped fs os n x y gs qs rs NoMemory s = s
-
-pub as_refusal : (fs : List Form) (os : List ℕ) (n x y : ℕ) (gs : List Form) (qs rs : List ℕ) (e : Refusal) → SummedUp fs os n x y gs qs rs (Err e) →
+pub as_refusal : (fs : List Form) (os : List ℕ) (n x y : ℕ) (gs : List Form) (qs : List ℕ) (e : Refusal) → Stopped (Between (meaning (take n fs) os x) (meaning (take n fs) os y)) fs os n gs qs e →
     Stopped (OfPairs (OnePair (meaning (take n fs) os x) (meaning (take n fs) os y))) fs os n gs qs e
-as_refusal fs os n x y gs qs rs e s =
+as_refusal fs os n x y gs qs e s =
     stopped_as (Between (meaning (take n fs) os x) (meaning (take n fs) os y)) (OfPairs (OnePair (meaning (take n fs) os x) (meaning (take n fs) os y)))
-    (λ f b. (meaning (take n fs) os x, meaning (take n fs) os y, (refl, refl), b)) fs os n gs qs e (as_stopped fs os n x y gs qs rs e s)
+    (λ f b. (meaning (take n fs) os x, meaning (take n fs) os y, (refl, refl), b)) fs os n gs qs e s
 
 -- the wanted pairs of C are those of A, which are found, and those of B
 module _ (A B C : Game → Game → Type 0) (first : (x y : Game) → A x y → C x y) (second : (x y : Game) → B x y → C x y)
@@ -99,18 +91,18 @@ module _ (fs : List Form) (os : List ℕ) (n : ℕ) (t : Table fs os n) (gs : Li
         (λ last. inr (p.2 ∙ sym (same x low), p.3 ∙ ap (meaning (take n fs) os) (sym last) ∙ sym (same y (All-get_or (λ z. z < n) row i 0 h known))))
         (has_more_cases row i p.0 h p.1)
 
-    pub row_more : (hs : List Form) (ps rs : List ℕ) (a : Placed) → SummedUp gs qs u x (get_or row i 0) hs ps rs (Ok a) → SumsAnswer (BesideRow fs os n x (take (i + 1) row)) fs os n hs ps rs (Ok a.used)
-    row_more hs ps rs a s =
-        let one = as_answer gs qs u x y hs ps rs a s in
-        (sums_on (BesideRow fs os n x (take i row)) Pair Next first second fs os n gs qs u before either hs ps a.used one.0, one.1)
+    pub row_more : (hs : List Form) (ps : List ℕ) (v : ℕ) (rs : List ℕ) (k : ℕ) → SummedUp gs qs u x (get_or row i 0) hs ps v rs (Ok k) → SumsAnswer (BesideRow fs os n x (take (i + 1) row)) fs os n hs ps v rs (Ok tt)
+    row_more hs ps v rs k s =
+        let one = as_answer gs qs u x y hs ps v rs k s in
+        (sums_on (BesideRow fs os n x (take i row)) Pair Next first second fs os n gs qs u before either hs ps v one.0, one.1)
 
     -- what is wanted of a part of the row is wanted of the row
     part : (g k : Game) → Next g k → BesideRow fs os n x row g k
     part g k p = (p.0, has_take (i + 1) row p.0 p.1, p.2, p.3)
 
-    pub row_fail : (hs : List Form) (ps rs : List ℕ) (e : Refusal) → SummedUp gs qs u x (get_or row i 0) hs ps rs (Err e) → Stopped (OfPairs (BesideRow fs os n x row)) fs os n hs ps e
-    row_fail hs ps rs e s =
-        sums_fail (BesideRow fs os n x (take i row)) Pair (BesideRow fs os n x row) (λ g k p. part g k (first g k p)) (λ g k p. part g k (second g k p)) fs os n gs qs u before hs ps e (as_refusal gs qs u x y hs ps rs e s)
+    pub row_fail : (hs : List Form) (ps : List ℕ) (e : Refusal) → Stopped (Between (meaning (take u gs) qs x) (meaning (take u gs) qs y)) gs qs u hs ps e → Stopped (OfPairs (BesideRow fs os n x row)) fs os n hs ps e
+    row_fail hs ps e s =
+        sums_fail (BesideRow fs os n x (take i row)) Pair (BesideRow fs os n x row) (λ g k p. part g k (first g k p)) (λ g k p. part g k (second g k p)) fs os n gs qs u before hs ps e (as_refusal gs qs u x y hs ps e s)
 
 -- one row walked through beside all of another
 module _ (fs : List Form) (os : List ℕ) (n : ℕ) (t : Table fs os n) (gs : List Form) (qs : List ℕ) (u i : ℕ)
@@ -143,8 +135,8 @@ module _ (fs : List Form) (os : List ℕ) (n : ℕ) (t : Table fs os n) (gs : Li
   whole_row : (g k : Game) → BesideRows fs os n (take (i + 1) row) ys g k → BesideRows fs os n row ys g k
   whole_row g k p = (p.0, has_take (i + 1) row p.0 p.1, p.2)
 
-  pub rows_more : (hs : List Form) (ps rs : List ℕ) (v : ℕ) → SumsAnswer (BesideRow gs qs u (get_or row i 0) ys) gs qs u hs ps rs (Ok v) → SumsAnswer (BesideRows fs os n (take (i + 1) row) ys) fs os n hs ps rs (Ok v)
-  rows_more hs ps rs v s =
+  pub rows_more : (hs : List Form) (ps : List ℕ) (v : ℕ) (rs : List ℕ) → SumsAnswer (BesideRow gs qs u (get_or row i 0) ys) gs qs u hs ps v rs (Ok tt) → SumsAnswer (BesideRows fs os n (take (i + 1) row) ys) fs os n hs ps v rs (Ok tt)
+  rows_more hs ps v rs s =
       (sums_on (BesideRows fs os n (take i row) ys) (BesideRow gs qs u x ys) (BesideRows fs os n (take (i + 1) row) ys) earlier newer fs os n gs qs u before one_of hs ps v s.0, s.1)
 
   pub rows_fail : (hs : List Form) (ps : List ℕ) (e : Refusal) → Stopped (OfPairs (BesideRow gs qs u (get_or row i 0) ys)) gs qs u hs ps e → Stopped (OfPairs (BesideRows fs os n row ys)) fs os n hs ps e

@@ -114,8 +114,8 @@ full_above gs fs os n hs qs full e m c =
     apart (suc i) zero h l q = absurd (full.apart i (omega arith) (equal_trans form.2 (equal_sym q)))
     apart (suc i) (suc j) h l q = ap suc (form_apart hs qs (length fs) full.grows.table i j (omega arith) (omega arith) q)
 
-pub row_refused : (b : Grid) (rs : List (List ℕ)) (fs : List Form) (os : List ℕ) (n : ℕ) (hs : List Form) (qs is : List ℕ) (e : Refusal) → Stopped (Met empty (games_of b rs)) fs os n hs qs e → RoomsAnswer b rs fs os n hs qs is (Err e)
+pub row_refused : (b : Grid) (rs : List (List ℕ)) (fs : List Form) (os : List ℕ) (n : ℕ) (hs : List Form) (qs : List ℕ) (v : ℕ) (is : List ℕ) (e : Refusal) → Stopped (Met empty (games_of b rs)) fs os n hs qs e → RoomsAnswer b rs fs os n hs qs v is (Err e)
 unfolding Member
-row_refused b rs fs os n hs qs is Full o = record { full = o; above = full_above (games_of b rs) fs os n hs qs o }
-row_refused b rs fs os n hs qs is TooWide w = (w.form, (w.canonical, w.kind), w.wide)
-row_refused b rs fs os n hs qs is NoMemory u = u
+row_refused b rs fs os n hs qs v is Full o = record { full = o; above = full_above (games_of b rs) fs os n hs qs o }
+row_refused b rs fs os n hs qs v is TooWide w = (w.form, (w.canonical, w.kind), w.wide)
+row_refused b rs fs os n hs qs v is NoMemory u = u

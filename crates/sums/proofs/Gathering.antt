@@ -12,10 +12,13 @@ use Rattle.forms.proofs.Compared.{option_at}
 use Rattle.forms.proofs.Meanings.{from_row}
 use Rattle.forms.proofs.Places.{option_below}
 use Rattle.canonical.specs.Reducing.{Inserted}
-use Rattle.canonical.specs.declared.canonical.Placed.{Placed}
 use Rattle.canonical.specs.declared.canonical.Refusal.{Refusal}
 use Rattle.positions.specs.Growing.{Grows}
 use Rattle.positions.proofs.Growth.{grows_as, grows_far, grows_meaning, grows_on}
+use Rattle.forms.specs.Values.{in_use, game_in}
+use Rattle.forms.proofs.Growing.{same_on}
+use Rattle.sums.specs.declared.sum.Sums.{Sums}
+use Rattle.sums.specs.Values.{SameSums}
 use Rattle.sums.specs.Sums.{Adds, Stopped, SumAnswer, SummedUp}
 use Rattle.sums.specs.Steps.{RowKnown, Grew, MovesIn}
 use Rattle.sums.proofs.Wider.{between_one, stopped_on, as_before, stopped_as}
@@ -93,21 +96,21 @@ module _ (fs : List Form) (os : List ℕ) (n : ℕ) (s : Side) (x y : ℕ) (tabl
     low = let b = below i less in omega arith
 
     -- one more option joins
-    pub step_more : (ts row new newer : List ℕ) (a : Placed) → Gathered (option_of (take n fs) os s x) i (meaning (take n fs) os y) gs qs u row new →
-        SummedUp gs qs u o y hs ws ts (Ok a) → Inserted new a.form newer →
-        Grew B fs os n hs ws a.used ts × Gathered (option_of (take n fs) os s x) (i + 1) (meaning (take n fs) os y) hs ws a.used row newer
-    step_more ts row new newer a gathered summed ins = (
-      record { grows = grows_on B fs os n gs qs u hs ws a.used grew.grows grown; holds = found.3 },
-      gathered_more (option_of (take n fs) os s x) (meaning (take n fs) os y) i hs ws a.used row new newer a.form found.1
-          (subst (λ k. Adds (meaning (take n fs) os k) (meaning (take n fs) os y) (meaning (take a.used hs) ws a.form)) at found.2)
-          (gathered_kept (option_of (take n fs) os s x) (meaning (take n fs) os y) B i gs qs u hs ws a.used row new grew.grows.table grown gathered) ins,
+    pub step_more : (ts row new newer : List ℕ) (a v : ℕ) → Gathered (option_of (take n fs) os s x) i (meaning (take n fs) os y) gs qs u row new →
+        SummedUp gs qs u o y hs ws v ts (Ok a) → Inserted new a newer →
+        Grew B fs os n hs ws v ts × Gathered (option_of (take n fs) os s x) (i + 1) (meaning (take n fs) os y) hs ws v row newer
+    step_more ts row new newer a v gathered summed ins = (
+      record { grows = grows_on B fs os n gs qs u hs ws v grew.grows grown; holds = found.3 },
+      gathered_more (option_of (take n fs) os s x) (meaning (take n fs) os y) i hs ws v row new newer a found.1
+          (subst (λ k. Adds (meaning (take n fs) os k) (meaning (take n fs) os y) (meaning (take v hs) ws a)) at found.2)
+          (gathered_kept (option_of (take n fs) os s x) (meaning (take n fs) os y) B i gs qs u hs ws v row new grew.grows.table grown gathered) ins,
     )
       where
-        found : SumAnswer (meaning (take n fs) os o) (meaning (take n fs) os y) gs qs u hs ws ts (Ok a)
-        found = as_before B fs os n gs qs u (λ g h. SumAnswer g h gs qs u hs ws ts (Ok a)) o y table grew.grows low second summed
+        found : SumAnswer (meaning (take n fs) os o) (meaning (take n fs) os y) gs qs u hs ws v ts (Ok a)
+        found = as_before B fs os n gs qs u (λ g h. SumAnswer g h gs qs u hs ws v ts (Ok a)) o y table grew.grows low second summed
 
-        grown : Grows B gs qs u hs ws a.used
-        grown = grows_as (Between (meaning (take n fs) os o) (meaning (take n fs) os y)) B wider gs qs u hs ws a.used found.0
+        grown : Grows B gs qs u hs ws v
+        grown = grows_as (Between (meaning (take n fs) os o) (meaning (take n fs) os y)) B wider gs qs u hs ws v found.0
 
     -- or has no sum
     pub step_fails : (e : Refusal) → Stopped (Between (meaning (take u gs) qs o) (meaning (take u gs) qs y)) gs qs u hs ws e → Stopped B fs os n hs ws e
@@ -135,3 +138,16 @@ module _ (fs : List Form) (os : List ℕ) (n : ℕ) (s : Side) (x y : ℕ) (tabl
         let a = j.all o.1.0 (let l = o.1.1 in omega arith) in
         (a.0, a.1, subst (λ f. Adds f (meaning (take n fs) os y) (meaning (take u gs) qs a.0)) (ap (meaning (take n fs) os) (o.1.2 0) ∙ o.2) a.2);
   }
+
+-- the moves of a side at the first options of x have been made beside y
+abbrev pub Stepping : Side → ℕ → ℕ → Sums → List ℕ → ℕ → Sums → List ℕ → Type 0
+Stepping side x y s row i t new =
+    Grew (Between (game_in s.table x) (game_in s.table y)) s.table.forms.now s.table.options.now s.table.used t.table.forms.now t.table.options.now t.table.used t.pairs.now
+    × Gathered (option_of (in_use s.table) s.table.options.now side x) i (game_in s.table y) t.table.forms.now t.table.options.now t.table.used row new
+
+pub sums_same : (s : Sums) → SameSums s s
+sums_same s = record { table = record { forms = refl; options = refl; places = refl; space = refl }; pairs = refl; slots = refl }
+
+-- sums that stay in their rows, and stay in them
+pub sums_same_on : {s t u : Sums} → SameSums s t → SameSums t u → SameSums s u
+sums_same_on a b = record { table = same_on a.table b.table; pairs = b.pairs ∙ a.pairs; slots = b.slots ∙ a.slots }

@@ -16,10 +16,10 @@ use Rattle.board.specs.Tree.{tree}
 use Rattle.rooms.specs.Games.{through}
 use Rattle.rooms.proofs.Through.{seen_fewer}
 use Rattle.forms.specs.declared.rows.Form.{Form}
+use Rattle.forms.specs.declared.table.Table.{Table as Lent}
 use Rattle.forms.specs.Meaning.{meaning}
 use Rattle.forms.specs.Links.{Table}
 use Rattle.forms.proofs.Chains.{use_length}
-use Rattle.canonical.specs.declared.canonical.Placed.{Placed}
 use Rattle.canonical.specs.declared.canonical.Refusal.{Refusal}
 use Rattle.canonical.specs.declared.canonical.Refusal.TheVariants.{Full, Wide, NoMemory}
 use Rattle.canonical.proofs.Thinning.{all_from_has}
@@ -33,7 +33,6 @@ use Rattle.sums.specs.Pairing.{OfPairs, BesideRows, SumsAll}
 use Rattle.sums.specs.Reaching.{Reaches}
 use Rattle.sums.specs.Rows.{room_game, Joined}
 use Rattle.sums.proofs.Wider.{stopped_as, stopped_on}
-use Rattle.sums.proofs.Adding.{as_stopped}
 
 -- every game reaches the empty game
 pub reach_empty : (g : Game) → Reached g empty
@@ -78,13 +77,14 @@ pub forms_known : (b : Grid) (r : List ℕ) (fs : List Form) (os : List ℕ) (n 
 forms_known b r fs os n gs ps own all ys u e formed = subst (Every (λ y. y < u)) (sym e) (all_from_has (λ y. y < u) all (λ w h. (formed.right w h).0))
 
 -- no room has been joined yet where its forms are not found
-pub unformed : (t : Game) (b : Grid) (r : List ℕ) (fs : List Form) (os : List ℕ) (n : ℕ) (gs : List Form) (ps : List ℕ) (e : Refusal) → RoomAnswer b r fs os n gs ps (Err e) → Stopped (Between t (room_game b r)) fs os n gs ps e
-unformed t b r fs os n gs ps e a = stopped_as (PositionOf b r) (Between t (room_game b r)) (position_between t b r) fs os n gs ps e (stopped e a)
+pub unformed : (g : Game) (b : Grid) (r : List ℕ) (t u : Lent) (e : Refusal) → RoomAnswer b r t u (Err e) → Stopped (Between g (room_game b r)) t.forms.now t.options.now t.used u.forms.now u.options.now e
+unformed g b r t u e a =
+    stopped_as (PositionOf b r) (Between g (room_game b r)) (position_between g b r) t.forms.now t.options.now t.used u.forms.now u.options.now e (stopped e a)
   where
-    stopped : (e : Refusal) → RoomAnswer b r fs os n gs ps (Err e) → Stopped (PositionOf b r) fs os n gs ps e
+    stopped : (e : Refusal) → RoomAnswer b r t u (Err e) → Stopped (PositionOf b r) t.forms.now t.options.now t.used u.forms.now u.options.now e
     stopped Full o = o
     stopped Wide w = w
-    stopped NoMemory u = u
+    stopped NoMemory m = m
 
 module _ (b : Grid) (r : List ℕ) (fs : List Form) (os : List ℕ) (n : ℕ) (table : Table fs os n) (t : ℕ) (known : t < n)
     (gs : List Form) (ps : List ℕ) (own : ℕ) (all : List ℕ) (u : ℕ) (formed : FormedRoom b r fs os n gs ps own all u) (xs : List ℕ) (reach : Reaches (take u gs) ps t xs) where
@@ -133,10 +133,10 @@ module _ (b : Grid) (r : List ℕ) (fs : List Form) (os : List ℕ) (n : ℕ) (t
         (form_canonical hs qs v sums.grows.table own (let far = grows_far (OfPairs (BesideRows gs ps u xs all)) gs ps u hs qs v formed.grows.table sums.grows in let low = formed.known in omega arith))
         (equal_sym own_equal) (subst (λ g. Between g (meaning (take v hs) qs own) f) now_T between)
 
-    pub unsummed : (is : List Form) (ks rs : List ℕ) (e : Refusal) → SummedUp hs qs v t own is ks rs (Err e) → Stopped (Between T (room_game b r)) fs os n is ks e
-    unsummed is ks rs e s =
+    pub unsummed : (is : List Form) (ks : List ℕ) (e : Refusal) → Stopped (Between (meaning (take v hs) qs t) (meaning (take v hs) qs own)) hs qs v is ks e → Stopped (Between T (room_game b r)) fs os n is ks e
+    unsummed is ks e s =
         stopped_on (Between T (room_game b r)) fs os n hs qs v is ks e paired_grows
-        (stopped_as (Between (meaning (take v hs) qs t) (meaning (take v hs) qs own)) (Between T (room_game b r)) own_between hs qs v is ks e (as_stopped hs qs v t own is ks rs e s))
+        (stopped_as (Between (meaning (take v hs) qs t) (meaning (take v hs) qs own)) (Between T (room_game b r)) own_between hs qs v is ks e s)
 
     -- all that lies between the sum so far and the room is found
     all_found : (f : Game) → Between T (room_game b r) f → (k : ℕ) × (k < v) × Equal f (meaning (take v hs) qs k)
@@ -149,16 +149,16 @@ module _ (b : Grid) (r : List ℕ) (fs : List Form) (os : List ℕ) (n : ℕ) (t
         let near : Equal (meaning (take u gs) ps y.0) w.1 = subst (Equal (meaning (take u gs) ps y.0)) (sym c.2) y.2 in
         (k.0, k.1, adds_one (w.2, w.5, w.6) (adds_equal (equal_refl w.0) near k.2))
 
-    pub joined : (is : List Form) (ks rs : List ℕ) (a : Placed) → SummedUp hs qs v t own is ks rs (Ok a) → Joined T b r fs os n is ks own a.form a.used × HoldsRight is ks a.used rs
-    joined is ks rs a s = (
+    pub joined : (is : List Form) (ks : List ℕ) (w : ℕ) (rs : List ℕ) (a : ℕ) → SummedUp hs qs v t own is ks w rs (Ok a) → Joined T b r fs os n is ks own a w × HoldsRight is ks w rs
+    joined is ks w rs a s = (
       record {
-        grows = grows_on (Between T (room_game b r)) fs os n hs qs v is ks a.used paired_grows more_grows;
+        grows = grows_on (Between T (room_game b r)) fs os n hs qs v is ks w paired_grows more_grows;
         known = let far = last_far in let low = formed.known in let mid = grows_far (OfPairs (BesideRows gs ps u xs all)) gs ps u hs qs v formed.grows.table sums.grows in omega arith;
         worth = subst (λ g. Equal g (room_game b r)) (sym (last_same own (let low = formed.known in let mid = grows_far (OfPairs (BesideRows gs ps u xs all)) gs ps u hs qs v formed.grows.table sums.grows in omega arith))) own_equal;
         low = s.1;
         adds = adds_equal (subst (λ g. Equal (meaning (take v hs) qs t) g) now_T (equal_refl (meaning (take v hs) qs t))) own_equal s.2;
-        whole = λ f w.
-            let k = all_found f w in
+        whole = λ f between.
+            let k = all_found f between in
             let low = k.1 in
             let far = last_far in
             (k.0, omega arith, subst (Equal f) (sym (last_same k.0 k.1)) k.2);
@@ -166,11 +166,11 @@ module _ (b : Grid) (r : List ℕ) (fs : List Form) (os : List ℕ) (n : ℕ) (t
       s.3,
     )
       where
-        more_grows : Grows (Between T (room_game b r)) hs qs v is ks a.used
-        more_grows = grows_as (Between (meaning (take v hs) qs t) (meaning (take v hs) qs own)) (Between T (room_game b r)) own_between hs qs v is ks a.used s.0
+        more_grows : Grows (Between T (room_game b r)) hs qs v is ks w
+        more_grows = grows_as (Between (meaning (take v hs) qs t) (meaning (take v hs) qs own)) (Between T (room_game b r)) own_between hs qs v is ks w s.0
 
-        last_far : v ≤ a.used
-        last_far = grows_far (Between T (room_game b r)) hs qs v is ks a.used sums.grows.table more_grows
+        last_far : v ≤ w
+        last_far = grows_far (Between T (room_game b r)) hs qs v is ks w sums.grows.table more_grows
 
-        last_same : (k : ℕ) → k < v → meaning (take a.used is) ks k ≡ meaning (take v hs) qs k
-        last_same = grows_meaning (Between T (room_game b r)) hs qs v is ks a.used sums.grows.table more_grows
+        last_same : (k : ℕ) → k < v → meaning (take w is) ks k ≡ meaning (take v hs) qs k
+        last_same = grows_meaning (Between T (room_game b r)) hs qs v is ks w sums.grows.table more_grows

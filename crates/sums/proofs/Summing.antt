@@ -18,11 +18,12 @@ use Rattle.forms.proofs.Givens.{equal_given}
 use Rattle.forms.proofs.Risings.{has_none}
 use Rattle.rooms.proofs.Lists.{all_by_has}
 use Rattle.canonical.specs.Answers.{Answered, Refused}
-use Rattle.canonical.specs.declared.canonical.Placed.{Placed}
 use Rattle.canonical.specs.declared.canonical.Refusal.{Refusal}
 use Rattle.canonical.specs.declared.canonical.Refusal.TheVariants.{Full, Wide, NoMemory}
 use Rattle.positions.specs.Growing.{Grows, Overfull}
 use Rattle.positions.proofs.Growth.{grows_none, grows_far, grows_meaning, grows_on}
+use Rattle.forms.specs.Values.{game_in}
+use Rattle.sums.specs.declared.sum.Sums.{Sums}
 use Rattle.sums.specs.Pairs.{OnlyMore}
 use Rattle.sums.specs.Sums.{Adds, Stopped, SumAnswer}
 use Rattle.sums.specs.Steps.{Grew, Moved, MovesIn, SumRow, StepAnswer}
@@ -53,7 +54,7 @@ module _ (fs : List Form) (os : List ℕ) (n : ℕ) (s : Side) (x y : ℕ) (tabl
   C = Between (meaning (take n fs) os y) (meaning (take n fs) os x)
 
   pub both_moves : (ts none row new : List ℕ) (v : ℕ) → none ≡ [] → MovesIn s (meaning (take n fs) os x) (meaning (take n fs) os y) gs qs u none row →
-      StepAnswer s (meaning (take u gs) qs y) (meaning (take u gs) qs x) gs qs u row hs ws ts new (Ok v) →
+      StepAnswer s (meaning (take u gs) qs y) (meaning (take u gs) qs x) gs qs u row hs ws v ts new (Ok tt) →
       Grew B fs os n hs ws v ts × SumRow s (meaning (take n fs) os x) (meaning (take n fs) os y) hs ws v new
   both_moves ts none row new v start one other = (
     grew_on B fs os n gs qs u rs hs ws v ts grew on,
@@ -65,8 +66,8 @@ module _ (fs : List Form) (os : List ℕ) (n : ℕ) (s : Side) (x y : ℕ) (tabl
     },
   )
     where
-      two : StepAnswer s (meaning (take n fs) os y) (meaning (take n fs) os x) gs qs u row hs ws ts new (Ok v)
-      two = as_before B fs os n gs qs u (λ g h. StepAnswer s g h gs qs u row hs ws ts new (Ok v)) y x table grew.grows second first other
+      two : StepAnswer s (meaning (take n fs) os y) (meaning (take n fs) os x) gs qs u row hs ws v ts new (Ok tt)
+      two = as_before B fs os n gs qs u (λ g h. StepAnswer s g h gs qs u row hs ws v ts new (Ok tt)) y x table grew.grows second first other
 
       on : Grew B gs qs u hs ws v ts
       on = grew_as C B (between_turned (meaning (take n fs) os x) (meaning (take n fs) os y)) gs qs u hs ws v ts two.0
@@ -79,6 +80,13 @@ module _ (fs : List Form) (os : List ℕ) (n : ℕ) (s : Side) (x y : ℕ) (tabl
       stopped_on B fs os n gs qs u hs ws e grew.grows
       (stopped_as C B (between_turned (meaning (take n fs) os x) (meaning (take n fs) os y)) gs qs u hs ws e
       (as_before B fs os n gs qs u (λ g h. Stopped (Between g h) gs qs u hs ws e) y x table grew.grows second first other))
+
+-- the rows of what both players' moves make of the sum of forms x and y, found while a table grew
+abbrev pub BothRows : ℕ → ℕ → Sums → Sums → List ℕ → List ℕ → Type 0
+BothRows x y s t us ls =
+    Grew (Between (game_in s.table x) (game_in s.table y)) s.table.forms.now s.table.options.now s.table.used t.table.forms.now t.table.options.now t.table.used t.pairs.now
+    × SumRow true (game_in s.table x) (game_in s.table y) t.table.forms.now t.table.options.now t.table.used us
+    × SumRow false (game_in s.table x) (game_in s.table y) t.table.forms.now t.table.options.now t.table.used ls
 
 -- the moves of the one player and then those of the other
 module _ (fs : List Form) (os : List ℕ) (n x y : ℕ) (table : Table fs os n) (first : x < n) (second : y < n)
@@ -176,20 +184,20 @@ module _ (g h : Game) (fs : List Form) (os : List ℕ) (n : ℕ) (us ls : List �
 -- the form of the sum is remembered
 pub summed : (fs : List Form) (os : List ℕ) (n : ℕ) (x y : ℕ) → Table fs os n → x < n → y < n →
     (gs : List Form) (qs : List ℕ) (u : ℕ) (rs : List ℕ) → Grew (Between (meaning (take n fs) os x) (meaning (take n fs) os y)) fs os n gs qs u rs →
-    (hs : List Form) (ws ts : List ℕ) (a : Placed) →
-    Grows (Between (meaning (take n fs) os x) (meaning (take n fs) os y)) gs qs u hs ws a.used × (a.form < a.used) × Adds (meaning (take n fs) os x) (meaning (take n fs) os y) (meaning (take a.used hs) ws a.form) →
-    OnlyMore rs x y a.form ts → SumAnswer (meaning (take n fs) os x) (meaning (take n fs) os y) fs os n hs ws ts (Ok a)
-summed fs os n x y table first second gs qs u rs grew hs ws ts a got only = (
+    (hs : List Form) (ws : List ℕ) (v : ℕ) (ts : List ℕ) (a : ℕ) →
+    Grows (Between (meaning (take n fs) os x) (meaning (take n fs) os y)) gs qs u hs ws v × (a < v) × Adds (meaning (take n fs) os x) (meaning (take n fs) os y) (meaning (take v hs) ws a) →
+    OnlyMore rs x y a ts → SumAnswer (meaning (take n fs) os x) (meaning (take n fs) os y) fs os n hs ws v ts (Ok a)
+summed fs os n x y table first second gs qs u rs grew hs ws v ts a got only = (
   grown,
   got.1,
   got.2,
-  holds_more hs ws a.used rs (holds_kept (Between (meaning (take n fs) os x) (meaning (take n fs) os y)) gs qs u hs ws a.used rs grew.grows.table got.0 grew.holds) x y a.form ts only (let f = far in omega arith) (let f = far in omega arith) got.1
-      (subst (λ k. Adds (meaning (take a.used hs) ws x) k (meaning (take a.used hs) ws a.form)) (sym (grows_meaning (Between (meaning (take n fs) os x) (meaning (take n fs) os y)) fs os n hs ws a.used table grown y second))
-      (subst (λ k. Adds k (meaning (take n fs) os y) (meaning (take a.used hs) ws a.form)) (sym (grows_meaning (Between (meaning (take n fs) os x) (meaning (take n fs) os y)) fs os n hs ws a.used table grown x first)) got.2)),
+  holds_more hs ws v rs (holds_kept (Between (meaning (take n fs) os x) (meaning (take n fs) os y)) gs qs u hs ws v rs grew.grows.table got.0 grew.holds) x y a ts only (let f = far in omega arith) (let f = far in omega arith) got.1
+      (subst (λ k. Adds (meaning (take v hs) ws x) k (meaning (take v hs) ws a)) (sym (grows_meaning (Between (meaning (take n fs) os x) (meaning (take n fs) os y)) fs os n hs ws v table grown y second))
+      (subst (λ k. Adds k (meaning (take n fs) os y) (meaning (take v hs) ws a)) (sym (grows_meaning (Between (meaning (take n fs) os x) (meaning (take n fs) os y)) fs os n hs ws v table grown x first)) got.2)),
 )
   where
-    grown : Grows (Between (meaning (take n fs) os x) (meaning (take n fs) os y)) fs os n hs ws a.used
-    grown = grows_on (Between (meaning (take n fs) os x) (meaning (take n fs) os y)) fs os n gs qs u hs ws a.used grew.grows got.0
+    grown : Grows (Between (meaning (take n fs) os x) (meaning (take n fs) os y)) fs os n hs ws v
+    grown = grows_on (Between (meaning (take n fs) os x) (meaning (take n fs) os y)) fs os n gs qs u hs ws v grew.grows got.0
 
-    far : n ≤ a.used
-    far = grows_far (Between (meaning (take n fs) os x) (meaning (take n fs) os y)) fs os n hs ws a.used table grown
+    far : n ≤ v
+    far = grows_far (Between (meaning (take n fs) os x) (meaning (take n fs) os y)) fs os n hs ws v table grown

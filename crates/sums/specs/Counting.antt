@@ -43,8 +43,8 @@ pub record RowFull (b : Grid) (rs : List (List ℕ)) (fs : List Form) (os : List
   pub above : n ≡ 1 → (m : ℕ) → Count (games_of b rs) m → length fs < m
 
 -- what the row of rooms answers
-abbrev pub RoomsAnswer : Grid → List (List ℕ) → List Form → List ℕ → ℕ → List Form → List ℕ → List ℕ → Result RowForms Refusal → Type 0
-RoomsAnswer b rs fs os n gs ps qs (Ok x) = RowIsFormed b rs fs os n gs ps x.sum (vec_items x.owns) x.used × HoldsRight gs ps x.used qs
-RoomsAnswer b rs fs os n gs ps qs (Err Full) = RowFull b rs fs os n gs ps
-RoomsAnswer b rs fs os n gs ps qs (Err TooWide) = (f : Game) × Member (games_of b rs) f × Wide 16 f
-RoomsAnswer b rs fs os n gs ps qs (Err NoMemory) = Unit {0}
+abbrev pub RoomsAnswer : Grid → List (List ℕ) → List Form → List ℕ → ℕ → List Form → List ℕ → ℕ → List ℕ → Result RowForms Refusal → Type 0
+RoomsAnswer b rs fs os n gs ps u qs (Ok x) = RowIsFormed b rs fs os n gs ps x.sum (vec_items x.owns) u × HoldsRight gs ps u qs
+RoomsAnswer b rs fs os n gs ps u qs (Err Full) = RowFull b rs fs os n gs ps
+RoomsAnswer b rs fs os n gs ps u qs (Err TooWide) = (f : Game) × Member (games_of b rs) f × Wide 16 f
+RoomsAnswer b rs fs os n gs ps u qs (Err NoMemory) = Unit {0}

@@ -7,3 +7,4 @@ pub mod Pairing
 pub mod Rows
 pub mod Counting
 pub mod Likeness
+pub mod Values

@@ -26,7 +26,7 @@ pub record SumsAll (W : Game → Game → Type 0) (fs : List Form) (os : List �
   pub grows : Grows (OfPairs W) fs os n gs qs u
   pub whole : (x y : Game) → W x y → (k : ℕ) × (k < u) × Adds x y (meaning (take u gs) qs k)
 
--- how many forms are in use when all those sums are found; or why they are not
-abbrev pub SumsAnswer : (Game → Game → Type 0) → List Form → List ℕ → ℕ → List Form → List ℕ → List ℕ → Result ℕ Refusal → Type 0
-SumsAnswer W fs os n gs qs rs (Ok u) = SumsAll W fs os n gs qs u × HoldsRight gs qs u rs
-SumsAnswer W fs os n gs qs rs (Err e) = Stopped (OfPairs W) fs os n gs qs e
+-- all those sums are found, and what is remembered is right; or why they are not
+abbrev pub SumsAnswer : (Game → Game → Type 0) → List Form → List ℕ → ℕ → List Form → List ℕ → ℕ → List ℕ → Result (Unit {0}) Refusal → Type 0
+SumsAnswer W fs os n gs qs u rs (Ok _) = SumsAll W fs os n gs qs u × HoldsRight gs qs u rs
+SumsAnswer W fs os n gs qs u rs (Err e) = Stopped (OfPairs W) fs os n gs qs e

@@ -27,6 +27,6 @@ pub record Joined (t : Game) (b : Grid) (r : List ℕ) (fs : List Form) (os : Li
   pub whole : (f : Game) → Between t (room_game b r) f → (k : ℕ) × (k < u) × Equal f (meaning (take u gs) ps k)
 
 -- the room joined, or why it is not
-abbrev pub JoinAnswer : Game → Grid → List ℕ → List Form → List ℕ → ℕ → List Form → List ℕ → List ℕ → Result RoomJoined Refusal → Type 0
-JoinAnswer t b r fs os n gs ps rs (Ok x) = Joined t b r fs os n gs ps x.own x.sum x.used × HoldsRight gs ps x.used rs
-JoinAnswer t b r fs os n gs ps rs (Err e) = Stopped (Between t (room_game b r)) fs os n gs ps e
+abbrev pub JoinAnswer : Game → Grid → List ℕ → List Form → List ℕ → ℕ → List Form → List ℕ → ℕ → List ℕ → Result RoomJoined Refusal → Type 0
+JoinAnswer t b r fs os n gs ps u rs (Ok x) = Joined t b r fs os n gs ps x.own x.sum u × HoldsRight gs ps u rs
+JoinAnswer t b r fs os n gs ps u rs (Err e) = Stopped (Between t (room_game b r)) fs os n gs ps e

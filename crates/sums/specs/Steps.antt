@@ -1,5 +1,6 @@
 -- The rows from which the form of a sum is made.
-use Rattle.std.specs.Prelude.{ℕ, ◌<◌, ◌⊎◌, List, take, Ok, Err, vec_items, Result}
+use Rattle.std.specs.Prelude.{ℕ, ◌<◌, ◌⊎◌, List, take, Ok, Err, vec_items, Result, Vec}
+use Rattle.std.specs.declared.alloc.Global.{Global}
 use Rattle.std.specs.List.{ContainsAt as Has}
 use Rattle.games.specs.Game.{Side, Game, options, In}
 use Rattle.games.specs.Count.{Between}
@@ -8,7 +9,6 @@ use Rattle.forms.specs.Rows.{Rising}
 use Rattle.forms.specs.Meaning.{meaning}
 use Rattle.canonical.specs.declared.canonical.Refusal.{Refusal}
 use Rattle.positions.specs.Growing.{Grows}
-use Rattle.positions.specs.declared.form.OptionRow.{OptionRow}
 use Rattle.sums.specs.Sums.{Adds, HoldsRight, Stopped}
 
 -- a rising row of forms in use
@@ -40,11 +40,11 @@ pub record SumRow (s : Side) (g h : Game) (fs : List Form) (os : List ℕ) (n : 
   pub two : (y : Game) → In y (options s h) → (w : ℕ) × Has row w × Adds y g (meaning (take n fs) os w)
 
 -- the forms that the moves in g make are put into a row
-abbrev pub StepAnswer : Side → Game → Game → List Form → List ℕ → ℕ → List ℕ → List Form → List ℕ → List ℕ → List ℕ → Result ℕ Refusal → Type 0
-StepAnswer s g h fs os n row gs qs rs new (Ok u) = Grew (Between g h) fs os n gs qs u rs × MovesIn s g h gs qs u row new
-StepAnswer s g h fs os n row gs qs rs new (Err e) = Stopped (Between g h) fs os n gs qs e
+abbrev pub StepAnswer : Side → Game → Game → List Form → List ℕ → ℕ → List ℕ → List Form → List ℕ → ℕ → List ℕ → List ℕ → Result (Unit {0}) Refusal → Type 0
+StepAnswer s g h fs os n row gs qs u rs new (Ok _) = Grew (Between g h) fs os n gs qs u rs × MovesIn s g h gs qs u row new
+StepAnswer s g h fs os n row gs qs u rs new (Err e) = Stopped (Between g h) fs os n gs qs e
 
 -- the row of the forms that the moves in either make
-abbrev pub RowAnswer : Side → Game → Game → List Form → List ℕ → ℕ → List Form → List ℕ → List ℕ → Result OptionRow Refusal → Type 0
-RowAnswer s g h fs os n gs qs rs (Ok a) = Grew (Between g h) fs os n gs qs a.used rs × SumRow s g h gs qs a.used (vec_items a.row)
-RowAnswer s g h fs os n gs qs rs (Err e) = Stopped (Between g h) fs os n gs qs e
+abbrev pub RowAnswer : Side → Game → Game → List Form → List ℕ → ℕ → List Form → List ℕ → ℕ → List ℕ → Result (Vec ℕ Global) Refusal → Type 0
+RowAnswer s g h fs os n gs qs u rs (Ok row) = Grew (Between g h) fs os n gs qs u rs × SumRow s g h gs qs u (vec_items row)
+RowAnswer s g h fs os n gs qs u rs (Err e) = Stopped (Between g h) fs os n gs qs e

@@ -6,7 +6,6 @@ use Rattle.games.specs.Sum.{Sum}
 use Rattle.games.specs.Count.{Between}
 use Rattle.forms.specs.declared.rows.Form.{Form}
 use Rattle.forms.specs.Meaning.{meaning}
-use Rattle.canonical.specs.declared.canonical.Placed.{Placed}
 use Rattle.canonical.specs.declared.canonical.Refusal.{Refusal}
 use Rattle.canonical.specs.declared.canonical.Refusal.TheVariants.{Full, Wide, NoMemory}
 use Rattle.positions.specs.Growing.{Grows, Overfull, IsTooWide}
@@ -28,14 +27,14 @@ Stopped B fs os n gs qs Wide = IsTooWide B
 Stopped B fs os n gs qs NoMemory = Unit {0}
 
 -- the form of the sum of g and h; the table grew by forms of such sums only, and what is remembered is right
-abbrev pub SumAnswer : Game → Game → List Form → List ℕ → ℕ → List Form → List ℕ → List ℕ → Result Placed Refusal → Type 0
-SumAnswer g h fs os n gs qs rs (Ok a) =
-    Grows (Between g h) fs os n gs qs a.used
-    × (a.form < a.used)
-    × Adds g h (meaning (take a.used gs) qs a.form)
-    × HoldsRight gs qs a.used rs
-SumAnswer g h fs os n gs qs rs (Err e) = Stopped (Between g h) fs os n gs qs e
+abbrev pub SumAnswer : Game → Game → List Form → List ℕ → ℕ → List Form → List ℕ → ℕ → List ℕ → Result ℕ Refusal → Type 0
+SumAnswer g h fs os n gs qs u rs (Ok k) =
+    Grows (Between g h) fs os n gs qs u
+    × (k < u)
+    × Adds g h (meaning (take u gs) qs k)
+    × HoldsRight gs qs u rs
+SumAnswer g h fs os n gs qs u rs (Err e) = Stopped (Between g h) fs os n gs qs e
 
 -- the same of the games of two forms
-abbrev pub SummedUp : List Form → List ℕ → ℕ → ℕ → ℕ → List Form → List ℕ → List ℕ → Result Placed Refusal → Type 0
-SummedUp fs os n x y gs qs rs r = SumAnswer (meaning (take n fs) os x) (meaning (take n fs) os y) fs os n gs qs rs r
+abbrev pub SummedUp : List Form → List ℕ → ℕ → ℕ → ℕ → List Form → List ℕ → ℕ → List ℕ → Result ℕ Refusal → Type 0
+SummedUp fs os n x y gs qs u rs r = SumAnswer (meaning (take n fs) os x) (meaning (take n fs) os y) fs os n gs qs u rs r

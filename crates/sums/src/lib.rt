@@ -4,6 +4,7 @@
 pub mod alike;
 pub mod between;
 pub mod join;
+pub mod memory;
 pub mod pairs;
 pub mod reach;
 pub mod row;

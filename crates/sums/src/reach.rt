@@ -1,35 +1,29 @@
 // The forms that are reached from a form. Options are below the form that has them, so one pass downwards finds all.
 ghost use Rattle.std.specs.Prelude.{◌<◌, ◌≤◌, length, IfOk};
 ghost use Rattle.std.specs.List.{AllByRecursion as Every};
-ghost use Rattle.forms.specs.Soundness.{Sound};
+ghost use Rattle.forms.specs.Values.{IsSound};
 ghost use Rattle.sums.specs.Reaching.{MarksRow, ListsMarked, Reaches};
 
-use forms::rows::{Form, row};
+use board::side::Side;
+use forms::rows::Forms;
 use std::alloc::{AllocError, Global};
 
 // All forms that are reached from form t over options of either player, t itself among them, rising.
-pub fn reached(
-    heap: Global,
-    forms: &[Form],
-    options: &[u16],
-    t: u16,
-) -> Result<Vec<u16>, AllocError>
-    requires sound { Sound forms.now options.now }
-    requires few { length forms.now ≤ 16384 }
-    requires known { t < length forms.now }
-    ensures { IfOk result (λ v. Reaches forms.now options.now t v.items) }
+pub fn reached(heap: Global, forms: Forms, t: u16) -> Result<Vec<u16>, AllocError>
+    requires sound { IsSound forms }
+    requires few { length forms.forms.now ≤ 16384 }
+    requires known { t < length forms.forms.now }
+    ensures { IfOk result (λ v. Reaches forms.entry.forms.now forms.entry.options.now t v.items) }
 {
     let mut held = Vec::from_elem(heap, false, t as usize + 1)?;
     let marks = held.as_mut_slice();
     marks[t as usize] = true;
-    let mut k = t + 1;
-    while k > 0 {
-        k -= 1;
+    for k in (0..t + 1).rev() {
         if !marks[k as usize] {
             continue;
         }
-        mark(marks, row(forms, options, true, k));
-        mark(marks, row(forms, options, false, k));
+        mark(marks, forms.row(Side::Upright, k));
+        mark(marks, forms.row(Side::Flat, k));
     }
     marked(heap, marks)
 }
