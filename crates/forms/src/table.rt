@@ -2,7 +2,7 @@
 ghost use Rattle.std.specs.Prelude.{◌≡◌, ℕ, ◌+◌, ◌%◌, ◌<◌, ◌≤◌, true, false, length, take, drop, Decides, slice_index_or};
 ghost use Rattle.forms.specs.Rows.{blank};
 ghost use Rattle.forms.specs.Links.{mixed, bucket_of};
-ghost use Rattle.forms.specs.Growth.{IsRow, Found, Fresh, Kept, Started, Begun};
+ghost use Rattle.forms.specs.Growth.{IsRow, Found, Fresh, Kept, Started, Begun, HasRoom};
 ghost use Rattle.forms.specs.Values.{IsSound, IsTable, in_use, SameRows, BegunIn};
 
 use crate::rows::{BLANK, Form, Forms, Rows};
@@ -88,9 +88,9 @@ impl<'a> Table<'a> {
         k
     }
 
-    // Empties the table but for form 0, the empty game.
+    // Begins the table anew: with form 0, the empty game, alone.
     pub fn clear(&mut self)
-        requires { IsTable self.old }
+        requires { HasRoom self.old.forms.now self.old.options.now }
         ensures table { IsTable self.new }
         ensures used { self.new.used ≡ 1 }
         ensures same { SameRows self.old self.new }

@@ -1,6 +1,7 @@
 // The form of the sum of two forms: it is made of the forms of what the moves in the one or in the other make of it.
 ghost use Rattle.std.specs.Prelude.{◌≡◌, ◌<◌};
 ghost use Rattle.board.specs.Values.{side_of};
+ghost use Rattle.forms.specs.Growth.{HasRoom};
 ghost use Rattle.sums.specs.Steps.{RowKnown};
 ghost use Rattle.sums.specs.Values.{AreRight, SameSums, SumOf, StepOf, RowFor};
 
@@ -20,9 +21,9 @@ pub struct Sums<'a> {
 }
 
 impl Sums<'_> {
-    // Empties the table but for form 0, the empty game, and forgets all pairs.
+    // Begins the table anew, with form 0, the empty game, alone, and forgets all pairs.
     pub fn clear(&mut self)
-        requires { AreRight self.old }
+        requires { HasRoom self.old.table.forms.now self.old.table.options.now }
         ensures right { AreRight self.new }
         ensures used { self.new.table.used ≡ 1 }
         ensures same { SameSums self.old self.new }

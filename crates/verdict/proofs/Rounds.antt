@@ -8,6 +8,7 @@ use Rattle.forms.specs.declared.rows.Form.{Form}
 use Rattle.forms.specs.Links.{Table}
 use Rattle.search.proofs.Turns.{unlawful, answered, found}
 use Rattle.sums.specs.Sums.{HoldsRight}
+use Rattle.sums.specs.declared.sum.Sums.{Sums}
 use Rattle.verdict.specs.Limits.{Over}
 use Rattle.verdict.specs.Worths.{Worth}
 use Rattle.verdict.specs.Trying.{FirstGood, FoundWorth, Tried, TriedAnswer}
@@ -81,14 +82,15 @@ module _ (s : Side) (b : Grid) where
               first = f;
             }
 
-        -- it has none
-        pub tried_refused : (e : Failure) → may b s k ≡ true → FoundWorth c gs hs os rs (Err e) → TriedAnswer s b fs hs os rs (Err e)
-        tried_refused Count m o = (k, m, subst (Over (length fs)) is (subst (λ n. Over n c) t.long o.1))
-        tried_refused NoMemory m o = tt
-
   -- what is said of the other side on the board after a plank
   pub lost_there : (k : ℕ) (o : Side) (c : Grid) → o ≡ other s → c ≡ laid b s k → Loses o c → Loses (other s) (laid b s k)
   lost_there k o c e f l = subst (λ z. Loses z (laid b s k)) e (subst (Loses o) f l)
 
   pub wins_there : (k : ℕ) (o : Side) (c : Grid) → o ≡ other s → c ≡ laid b s k → Wins o c → Wins (other s) (laid b s k)
   wins_there k o c e f w = subst (λ z. Wins z (laid b s k)) e (subst (Wins o) f w)
+
+-- the board after the plank at k has no worth
+pub tried_refused : (s : Side) (b : Grid) (k : ℕ) (m l n : Sums) (x : Option ℕ) → Tried s b k m.table.forms.now l.table.forms.now l.table.options.now l.pairs.now x l.table.used →
+    (c : Grid) → c ≡ laid b s k → (e : Failure) → may b s k ≡ true → FoundWorth c l n (Err e) → TriedAnswer s b m n (Err e)
+tried_refused s b k m l n x t c is Count can o = (k, can, subst (Over (length m.table.forms.now)) is (subst (λ z. Over z c) t.long o.1))
+tried_refused s b k m l n x t c is NoMemory can o = tt

@@ -1,10 +1,11 @@
 -- The whole answer from the worth of the board and the planks of both sides.
-use Rattle.std.proofs.Common.{◌≡◌, ℕ, true, false, List, length, Some, None, Ok, Err, Option, sym, ◌∙◌, subst, inl, inr, ⊎_elim, arith}
+use Rattle.std.proofs.Common.{◌≡◌, ℕ, true, false, List, length, Some, None, Ok, Err, Option, Result, sym, ◌∙◌, subst, inl, inr, ⊎_elim, arith}
 use Rattle.board.specs.Grid.{Grid, Side, other}
 use Rattle.board.specs.Moves.{may, laid}
 use Rattle.board.specs.Rules.{Says}
 use Rattle.board.proofs.Outcomes.{may_below}
 use Rattle.forms.specs.declared.rows.Form.{Form}
+use Rattle.sums.specs.declared.sum.Sums.{Sums}
 use Rattle.search.specs.Answers.{answer_of}
 use Rattle.search.proofs.Turns.{none_found}
 use Rattle.verdict.specs.Limits.{Over, IsTooMany}
@@ -27,17 +28,16 @@ module _ (s : Side) (b : Grid) where
   says_first None f = none_found s b (length b.cells) f (omega arith)
 
   -- the board itself is refused
-  pub whole_refused : (rs : List (List ℕ)) (fs gs : List Form) (ps qs : List ℕ) (e : Failure) → WorthAnswer b rs fs gs ps qs (Err e) → Chosen s b (length fs) (Err e)
+  pub whole_refused : (rs : List (List ℕ)) (m k : Sums) (e : Failure) → WorthAnswer b rs m k (Err e) → Chosen s b (length m.table.forms.now) (Err e)
   unfolding IsTooMany
-  whole_refused rs fs gs ps qs Count o = inl o
-  whole_refused rs fs gs ps qs NoMemory o = tt
+  whole_refused rs m k Count o = inl o
+  whole_refused rs m k NoMemory o = tt
 
   -- a board after a plank of side t is
-  pub plank_refused :
-      (t : Side) (n : ℕ) (gs hs : List Form) (ps qs : List ℕ) → length gs ≡ n → (e : Failure) → TriedAnswer t b gs hs ps qs (Err e) → Chosen s b n (Err e)
+  pub plank_refused : (t : Side) (n : ℕ) (m k : Sums) → length m.table.forms.now ≡ n → (e : Failure) → TriedAnswer t b m k (Err e) → Chosen s b n (Err e)
   unfolding IsTooMany
-  plank_refused t n gs hs ps qs same Count o = inr (t, o.0, o.1, subst (λ m. Over m (laid b t o.0)) same o.2)
-  plank_refused t n gs hs ps qs same NoMemory o = tt
+  plank_refused t n m k same Count o = inr (t, o.0, o.1, subst (λ z. Over z (laid b t o.0)) same o.2)
+  plank_refused t n m k same NoMemory o = tt
 
   -- neither
   none_over :
@@ -61,3 +61,9 @@ module _ (s : Side) (b : Grid) where
         (no_plank s n gs hs os rs y v (theirs.long ∙ same) own)
         (subst (λ t. (p : ℕ) → may b t p ≡ true → Over n (laid b t p) → ⊥) is (no_plank o n fs gs ps qs x u same theirs))),
   )
+
+  -- the last answer is the whole one
+  pub last_chosen : (n : ℕ) → (Over n b → ⊥) → (o : Side) → o ≡ other s → (m k : Sums) (x : Option ℕ) → length m.table.forms.now ≡ n → TriedAnswer o b m k (Ok x) →
+      (l : Sums) (r : Result (Option ℕ) Failure) → TriedAnswer s b k l r → Chosen s b n r
+  last_chosen n whole o is m k x same theirs l (Ok y) own = chosen n whole o is _ _ _ _ x _ same theirs _ _ _ y _ own
+  last_chosen n whole o is m k x same theirs l (Err e) own = plank_refused s n k l (theirs.long ∙ same) e own

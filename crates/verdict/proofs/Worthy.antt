@@ -12,6 +12,7 @@ use Rattle.canonical.specs.declared.canonical.Refusal.{Refusal}
 use Rattle.canonical.specs.declared.canonical.Refusal.TheVariants.{Full, Wide as TooWide, NoMemory}
 use Rattle.sums.specs.Counting.{RowIsFormed, RoomsAnswer}
 use Rattle.sums.specs.Sums.{HoldsRight}
+use Rattle.sums.specs.declared.sum.Sums.{Sums}
 use Rattle.verdict.specs.Limits.{Over}
 use Rattle.verdict.specs.Worths.{Worth, WorthAnswer, failure_of}
 
@@ -55,14 +56,14 @@ module _ (b : Grid) (rs : List (List ℕ)) (rooms : Rooms b rs) where
           within = not_over (length es) (λ m c h. let k = x.0.most m c in let w = grows.table.within in let l = grows.long in omega arith) x.0.narrow;
         }
 
-    -- it was not, since a form is too wide
-    pub worth_wide : (m : ℕ) (qs : List ℕ) (e : Refusal) → e ≡ TooWide → RoomsAnswer b rs fs os n gs ps qs (Err e) → Over m b
-    worth_wide m qs e is x = over_wide m (subst (λ r. RoomsAnswer b rs fs os n gs ps qs (Err r)) is x)
-
     -- it was not, though the table was new
     pub worth_refused :
-        (es : List Form) → length fs ≡ length es → n ≡ 1 → (qs : List ℕ) (e : Refusal) → RoomsAnswer b rs fs os n gs ps qs (Err e) →
-        WorthAnswer b rs es gs ps qs (Err (failure_of e))
-    worth_refused es same one qs Full x = over_count (length es) (λ m c. let h = x.above one m c in omega arith)
-    worth_refused es same one qs TooWide x = over_wide (length es) x
-    worth_refused es same one qs NoMemory x = tt
+        (m k : Sums) → length fs ≡ length m.table.forms.now → n ≡ 1 → (u : ℕ) (qs : List ℕ) (e : Refusal) → RoomsAnswer b rs fs os n gs ps u qs (Err e) →
+        WorthAnswer b rs m k (Err (failure_of e))
+    worth_refused m k same one u qs Full x = over_count (length m.table.forms.now) (λ c h. let above = x.above one c h in omega arith)
+    worth_refused m k same one u qs TooWide x = over_wide (length m.table.forms.now) x
+    worth_refused m k same one u qs NoMemory x = tt
+
+    -- it was not, since a form is too wide
+    pub worth_wide : (m u : ℕ) (qs : List ℕ) (e : Refusal) → e ≡ TooWide → RoomsAnswer b rs fs os n gs ps u qs (Err e) → Over m b
+    worth_wide m u qs e is x = over_wide m (subst (λ r. RoomsAnswer b rs fs os n gs ps u qs (Err r)) is x)

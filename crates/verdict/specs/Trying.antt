@@ -4,23 +4,28 @@ use Rattle.board.specs.Grid.{Grid, Side, other}
 use Rattle.board.specs.Moves.{may, laid}
 use Rattle.board.specs.Rules.{Wins, lay, Says}
 use Rattle.rooms.specs.Rooms.{Larger}
+use Rattle.rooms.specs.Values.{SmallRooms}
 use Rattle.forms.specs.declared.rows.Form.{Form}
 use Rattle.forms.specs.Links.{Table}
 use Rattle.sums.specs.Sums.{HoldsRight}
 use Rattle.sums.specs.declared.row.RowForms.{RowForms}
+use Rattle.sums.specs.declared.sum.Sums.{Sums}
 use Rattle.verdict.specs.Limits.{Over}
 use Rattle.verdict.specs.Worths.{WorthAnswer}
 use Rattle.verdict.specs.declared.worth.Failure.{Failure}
 use Rattle.verdict.specs.declared.worth.Failure.TheVariants.{Count, NoMemory}
-use Rattle.verdict.specs.declared.tries.Tries.{Tries}
 
 -- no room has more than 16 squares
 unfoldable pub NotLarge : Grid → Type 0
 NotLarge b = (p : ℕ) → Larger 16 b p → ⊥
 
+-- nor has any room of the board, seen with its rooms
+abbrev pub HasSmallRooms : Grid → Type 0
+HasSmallRooms b = (rs : List (List ℕ)) × SmallRooms b rs
+
 -- the worth of a board with its rooms
-abbrev pub FoundWorth : Grid → List Form → List Form → List ℕ → List ℕ → Result RowForms Failure → Type 0
-FoundWorth b fs gs ps qs r = (rs : List (List ℕ)) × WorthAnswer b rs fs gs ps qs r
+abbrev pub FoundWorth : Grid → Sums → Sums → Result RowForms Failure → Type 0
+FoundWorth b s t r = (rs : List (List ℕ)) × WorthAnswer b rs s t r
 
 -- the first place below k after which the other side has lost; or after each the other side wins
 unfoldable pub FirstGood : Side → Grid → ℕ → Option ℕ → Type 0
@@ -36,7 +41,7 @@ pub record Tried (s : Side) (b : Grid) (k : ℕ) (fs gs : List Form) (ps qs : Li
   pub first : FirstGood s b k found
 
 -- all places were tried; or the board after one of the planks is past the limits; or memory is wanting
-abbrev pub TriedAnswer : Side → Grid → List Form → List Form → List ℕ → List ℕ → Result Tries Failure → Type 0
-TriedAnswer s b fs gs ps qs (Ok x) = Tried s b (length b.cells) fs gs ps qs x.first x.used
-TriedAnswer s b fs gs ps qs (Err Count) = (p : ℕ) × (may b s p ≡ true) × Over (length fs) (laid b s p)
-TriedAnswer s b fs gs ps qs (Err NoMemory) = Unit {0}
+abbrev pub TriedAnswer : Side → Grid → Sums → Sums → Result (Option ℕ) Failure → Type 0
+TriedAnswer s b m k (Ok x) = Tried s b (length b.cells) m.table.forms.now k.table.forms.now k.table.options.now k.pairs.now x k.table.used
+TriedAnswer s b m k (Err Count) = (p : ℕ) × (may b s p ≡ true) × Over (length m.table.forms.now) (laid b s p)
+TriedAnswer s b m k (Err NoMemory) = Unit {0}

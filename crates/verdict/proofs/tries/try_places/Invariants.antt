@@ -1,7 +1,9 @@
 use Rattle.board.specs.Values.{side_of, grid_of}
+use Rattle.sums.specs.Values.{SameMemory}
 use Rattle.verdict.specs.Trying.{Tried}
 use Rattle.verdict.proofs.tries.try_places.Given as goal
 
 abbrev pub invariant-loop-place : goal.invariant-loop-place
 invariant-loop-place l =
-    Tried (side_of l.side) (grid_of l.board) l.place l.initial.forms l.forms l.options l.pairs l.first l.grown
+    Tried (side_of l.side) (grid_of l.board) l.place l.initial.memory.sums.table.forms.now l.memory.sums.table.forms.now l.memory.sums.table.options.now l.memory.sums.pairs.now l.first l.memory.sums.table.used
+    × SameMemory l.initial.memory l.memory

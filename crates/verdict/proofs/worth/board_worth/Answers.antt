@@ -1,31 +1,41 @@
-use Rattle.std.proofs.Common.{◌≡◌, length, Err, vec_items, sym, refl, ◌∙◌, subst}
+use Rattle.std.proofs.Common.{length, vec_items, refl, ◌∙◌, arith}
+use Rattle.std.proofs.lemmas.Result.{err_from_is_err_and}
 use Rattle.board.specs.Values.{grid_of}
 use Rattle.rooms.specs.Values.{rooms_of}
-use Rattle.verdict.specs.Worths.{WorthAnswer}
 use Rattle.verdict.proofs.Worthy.{worth_formed, worth_wide, worth_refused}
 use Rattle.verdict.proofs.worth.board_worth.Goals as goal
 
-pub returns-in-Ok : goal.returns-in-Ok
-returns-in-Ok c =
-    worth_formed (grid_of c.args.board.now) (rooms_of c.args.rooms.now) c.requires.rooms.rooms c.args.forms.now c.args.options.now c.args.used c.row_of_rooms.new.forms c.row_of_rooms.new.options
-    c.args.forms.now refl c.row_of_rooms.new.pairs c.in-Ok.row.sum (vec_items c.in-Ok.row.owns) c.in-Ok.row.used c.in-Ok.ensures
+pub returns-in-Ok-clause-answer : goal.returns-in-Ok-clause-answer
+returns-in-Ok-clause-answer c =
+    let s = c.args.memory.now.sums.table in
+    let t = c.row_of_rooms.new.self.sums in
+    worth_formed (grid_of c.args.board.now) (rooms_of c.args.rooms.now) c.requires.rooms.rooms s.forms.now s.options.now s.used t.table.forms.now t.table.options.now
+    s.forms.now refl t.pairs.now c.in-Ok.row.sum (vec_items c.in-Ok.row.owns) t.table.used c.in-Ok.ensures.answer
 
-pub returns-in-Ok-row_of_rooms : goal.returns-in-Ok-row_of_rooms
-returns-in-Ok-row_of_rooms c =
-    let same : length c.start.new.forms ≡ length c.args.forms.now = c.start.auto.forms ∙ c.row_of_rooms.auto.forms in
-    worth_formed (grid_of c.args.board.now) (rooms_of c.args.rooms.now) c.requires.rooms.rooms c.start.new.forms c.row_of_rooms.new.options c.in-Some.one c.row_of_rooms-2.new.forms c.row_of_rooms-2.new.options
-    c.args.forms.now same c.row_of_rooms-2.new.pairs c.in-Ok-row_of_rooms.row.sum (vec_items c.in-Ok-row_of_rooms.row.owns) c.in-Ok-row_of_rooms.row.used c.in-Ok-row_of_rooms.ensures
+pub clear-requires : goal.clear-requires
+clear-requires c =
+    let t = c.requires.right.table in
+    let same = c.in-Err-Full.ensures.same.sums.table in
+    (let e = same.places in omega (arith, t.started, t.within), let e = same.places in omega (arith, t.size), let e = same.places in let f = same.space in omega (arith, t.space))
 
-pub returns-in-Wide : goal.returns-in-Wide
-returns-in-Wide c =
-    worth_wide (grid_of c.args.board.now) (rooms_of c.args.rooms.now) c.requires.rooms.rooms c.args.forms.now c.args.options.now c.args.used c.row_of_rooms.new.forms c.row_of_rooms.new.options
-    (length c.args.forms.now) c.row_of_rooms.new.pairs c.in-Err.e c.in-Wide.is c.in-Err.ensures
+pub returns-in-Err-Wide-clause-answer : goal.returns-in-Err-Wide-clause-answer
+returns-in-Err-Wide-clause-answer c =
+    let s = c.args.memory.now.sums.table in
+    worth_wide (grid_of c.args.board.now) (rooms_of c.args.rooms.now) c.requires.rooms.rooms s.forms.now s.options.now s.used _ _ (length s.forms.now) c.row_of_rooms.new.self.sums.table.used c.row_of_rooms.new.self.sums.pairs.now _ c.in-Err-Wide.field-0-is c.in-Err-Wide.ensures.answer
 
-pub returns-in-Err-row_of_rooms : goal.returns-in-Err-row_of_rooms
-returns-in-Err-row_of_rooms c =
-    let b = grid_of c.args.board.now in
-    let rs = rooms_of c.args.rooms.now in
-    let same : length c.start.new.forms ≡ length c.args.forms.now = c.start.auto.forms ∙ c.row_of_rooms.auto.forms in
-    subst (λ e. WorthAnswer b rs c.args.forms.now c.row_of_rooms-2.new.forms c.row_of_rooms-2.new.options c.row_of_rooms-2.new.pairs (Err e)) (sym c.blamed.ensures)
-    (worth_refused b rs c.requires.rooms.rooms c.start.new.forms c.row_of_rooms.new.options c.in-Some.one c.row_of_rooms-2.new.forms c.row_of_rooms-2.new.options
-    c.args.forms.now same c.in-Some.ensures.0 c.row_of_rooms-2.new.pairs c.in-Err-row_of_rooms.e c.in-Err-row_of_rooms.ensures)
+pub returns-in_err-row_of_rooms-clause-answer : goal.returns-in_err-row_of_rooms-clause-answer
+returns-in_err-row_of_rooms-clause-answer c =
+    let t = c.clear.new.self.table in
+    let u = c.row_of_rooms-2.new.self.sums in
+    let p = err_from_is_err_and c.from_residual.result c.from_residual.ensures.1 in
+    rw (p.1, p.2)
+    (worth_refused (grid_of c.args.board.now) (rooms_of c.args.rooms.now) c.requires.rooms.rooms t.forms.now t.options.now t.used u.table.forms.now u.table.options.now
+    c.args.memory.now.sums u (c.clear.ensures.same.table.places ∙ c.row_of_rooms.ensures.same.sums.table.places) c.clear.ensures.used u.table.used u.pairs.now _ c.in_err-row_of_rooms.ensures.answer)
+
+pub returns-clause-answer : goal.returns-clause-answer
+returns-clause-answer c =
+    let t = c.clear.new.self.table in
+    let u = c.row_of_rooms-2.new.self.sums in
+    worth_formed (grid_of c.args.board.now) (rooms_of c.args.rooms.now) c.requires.rooms.rooms t.forms.now t.options.now t.used u.table.forms.now u.table.options.now
+    c.args.memory.now.sums.table.forms.now (c.clear.ensures.same.table.places ∙ c.row_of_rooms.ensures.same.sums.table.places) u.pairs.now
+    c.in_ok-row_of_rooms.field-0.sum (vec_items c.in_ok-row_of_rooms.field-0.owns) u.table.used c.in_ok-row_of_rooms.ensures.answer
