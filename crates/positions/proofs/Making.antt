@@ -4,7 +4,7 @@ use lib.Bits.{bit_or}
 use Rattle.std.specs.Fn.{Mut, Called}
 use Rattle.std.specs.Array.{IsFromFnResultFrom}
 use Rattle.std.specs.List.{ContainsAt as Has, position, position_or_len}
-use Rattle.std.proofs.lemmas.List.{at_drop_more, at_drop_all, take_more, take_all}
+use Rattle.std.proofs.lemmas.List.{at_drop_more, take_more}
 use Rattle.std.proofs.lemmas.List.Quantifiers.{position-Some}
 use Rattle.std.proofs.lemmas.List.Sums.{fails_before_first}
 use Rattle.std.proofs.lemmas.Grind.{common_steps}
@@ -82,9 +82,6 @@ module _ (qs ps : List ℕ) (k set : ℕ) (sofar : Sofar qs ps k set) where
         (λ l e. eq-eqb j i (one_number qs rise j i (ltb-true j (length qs) l) low (sym (eqb-true (get_or ps k 0) (get_or qs j 0) e) ∙ sym is)))
         ∙ ap (λ x. ltb j (length qs) && x) (sym (ap (λ l. among l (get_or qs j 0)) (take_more ps k 0 h) ∙ among_push (take k ps) (get_or ps k 0) (get_or qs j 0))),
   )
-
-  pub all_in : length ps ≤ k → SetOf qs ps (Some set)
-  all_in h = (sym (sym (at_drop_all (λ l. all_among l qs) ps k h) ∙ sofar.0), subst (λ l. Holds qs l set) (take_all k ps h) sofar.1)
 
 -- the set of a move, from what it covers
 module _ (b : Grid) (qs : List ℕ) (s : Side) (q : ℕ) where

@@ -1,5 +1,5 @@
 -- The games of a room's positions: their options are the games of the positions after a move.
-use Rattle.std.proofs.Common.{◌≡◌, ℕ, ◌-◌, ◌^◌, ◌<◌, ◌≤◌, true, false, List, ◌∷◌, length, get_or, Option, None, Some, MatchOption, IfSome, is_some, unwrap_or, eqb, sym, refl, ap, ◌∙◌, subst, arith}
+use Rattle.std.proofs.Common.{◌≡◌, ℕ, ◌-◌, ◌^◌, ◌<◌, ◌≤◌, true, List, ◌∷◌, length, get_or, Option, None, Some, MatchOption, IfSome, is_some, unwrap_or, eqb, sym, refl, ap, ◌∙◌, subst, arith}
 use lib.Bits.{bit_and}
 use lib.Count.{ones}
 use Rattle.std.specs.List.{ContainsAt as Has}
@@ -17,34 +17,32 @@ use Rattle.positions.specs.Reach.{Moves, Comes, already, after, game_at, set_at,
 use Rattle.positions.proofs.Bits.{has_zero, ones_left, ones_some}
 use Rattle.positions.proofs.Steps.{has_covered, may_at, laid_at, place_at, inside_at, part_at}
 
+-- the set of a move, or the empty set
+module _ (b : Grid) (qs : List ℕ) (s : Side) (q : ℕ) where
+  -- where it is not empty, the move lies in the room
+  some_inside : (set : Option ℕ) → Move b qs s q set → (unwrap_or set 0 ≡ 0 → ⊥) → inside b qs s q ≡ true
+  unfolding Move
+  some_inside None h some = absurd (some refl)
+  some_inside (Some m) h some = h.0
+
+  inside_holds : (set : Option ℕ) → Move b qs s q set → inside b qs s q ≡ true → Holds qs (covered b s q) (unwrap_or set 0)
+  unfolding Move
+  inside_holds None h e = absurd (both_ways (inside b qs s q) h e)
+  inside_holds (Some m) h e = h.1
+
+small_or : (set : Option ℕ) → IfSome set (λ m. m < 2 ^ 16) → unwrap_or set 0 < 2 ^ 16
+small_or None h = omega arith
+small_or (Some m) h = h
+
 -- a rising room of free squares, and its moves
 module _ (b : Grid) (qs : List ℕ) (ms : Moves) (made : Ground b qs ms.upright ms.flat) where
   -- a move that is not empty lies in the room
   inside_some : (s : Side) (i : ℕ) → i < length qs → (set_at ms s i ≡ 0 → ⊥) → inside b qs s (get_or qs i 0) ≡ true
-  unfolding Move
-  inside_some s i low some = go (set_in (row_for s ms.upright ms.flat) i) (made.each s i low) some
-    where
-      go : (set : Option ℕ) → MatchOption set (inside b qs s (get_or qs i 0) ≡ false) (λ m. (inside b qs s (get_or qs i 0) ≡ true) × Holds qs (covered b s (get_or qs i 0)) m) →
-          (unwrap_or set 0 ≡ 0 → ⊥) → inside b qs s (get_or qs i 0) ≡ true
-      go None h some = absurd (some refl)
-      go (Some m) h some = h.0
+  inside_some s i low = some_inside b qs s (get_or qs i 0) _ (made.each s i low)
 
   -- the set of one that lies in the room
   holds_there : (s : Side) (i : ℕ) → i < length qs → inside b qs s (get_or qs i 0) ≡ true → Holds qs (covered b s (get_or qs i 0)) (set_at ms s i)
-  unfolding Move
-  holds_there s i low e = go (set_in (row_for s ms.upright ms.flat) i) (made.each s i low)
-    where
-      go : (set : Option ℕ) → MatchOption set (inside b qs s (get_or qs i 0) ≡ false) (λ m. (inside b qs s (get_or qs i 0) ≡ true) × Holds qs (covered b s (get_or qs i 0)) m) →
-          Holds qs (covered b s (get_or qs i 0)) (unwrap_or set 0)
-      go None h = absurd (both_ways (inside b qs s (get_or qs i 0)) h e)
-      go (Some m) h = h.1
-
-  small_at : (s : Side) (i : ℕ) → set_at ms s i < 2 ^ 16
-  small_at s i = go (set_in (row_for s ms.upright ms.flat) i) (made.small s i)
-    where
-      go : (set : Option ℕ) → IfSome set (λ m. m < 2 ^ 16) → unwrap_or set 0 < 2 ^ 16
-      go None h = omega arith
-      go (Some m) h = h
+  holds_there s i low = inside_holds b qs s (get_or qs i 0) _ (made.each s i low)
 
   -- and one that lies in the room has its own square
   has_own : (s : Side) (i : ℕ) → i < length qs → inside b qs s (get_or qs i 0) ≡ true → has (set_at ms s i) i ≡ true
@@ -59,7 +57,7 @@ module _ (b : Grid) (qs : List ℕ) (ms : Moves) (made : Ground b qs ms.upright 
   left_of set s i m None at low all is = λ can. both_ways (eqb (bit_and set m) m) (sym all) (eq-eqb (bit_and set m) m (subst (λ x. bit_and set x ≡ x) (ap (λ x. unwrap_or x 0) at) can.part))
   left_of set s i m (Some r) at low all is =
       let same : set_at ms s i ≡ m = ap (λ x. unwrap_or x 0) at in
-      let in_room = (subst (λ x. MatchOption x (inside b qs s (get_or qs i 0) ≡ false) (λ m. (inside b qs s (get_or qs i 0) ≡ true) × Holds qs (covered b s (get_or qs i 0)) m)) at (made.each s i low)).0 in (
+      let in_room = (subst (λ x. Move b qs s (get_or qs i 0) x) at (made.each s i low)).0 in (
         record {
           low = low;
           some = λ z. both_ways (has (set_at ms s i) i) (ap (λ x. has x i) z ∙ has_zero i) (has_own s i low in_room);
@@ -70,10 +68,10 @@ module _ (b : Grid) (qs : List ℕ) (ms : Moves) (made : Ground b qs ms.upright 
 
   -- a move leads to the position without its squares
   pub may_there : (set : ℕ) (s : Side) (i : ℕ) → Can (length qs) ms set s i → may (position b qs set) s (get_or qs i 0) ≡ true
-  may_there set s i can = (let e = inside_some s i can.low can.some in may_at b qs made.inside s i (set_at ms s i) e (holds_there s i can.low e) set can.part)
+  may_there set s i can = let e = inside_some s i can.low can.some in may_at b qs made.inside s i (set_at ms s i) e (holds_there s i can.low e) set can.part
 
   pub laid_there : (set : ℕ) (s : Side) (i : ℕ) → Can (length qs) ms set s i → laid (position b qs set) s (get_or qs i 0) ≡ position b qs (set - set_at ms s i)
-  laid_there set s i can = (let e = inside_some s i can.low can.some in laid_at b qs made.inside s i (set_at ms s i) e (holds_there s i can.low e) set can.part)
+  laid_there set s i can = let e = inside_some s i can.low can.some in laid_at b qs made.inside s i (set_at ms s i) e (holds_there s i can.low e) set can.part
 
   -- and every plank that may be laid is such a move
   pub can_there : (set p : ℕ) (s : Side) → may (position b qs set) s p ≡ true → (i : ℕ) × (get_or qs i 0 ≡ p) × Can (length qs) ms set s i
@@ -86,7 +84,7 @@ module _ (b : Grid) (qs : List ℕ) (ms : Moves) (made : Ground b qs ms.upright 
         record {
           low = at.low;
           some = λ z. both_ways (has (set_at ms s i) i) (ap (λ x. has x i) z ∙ has_zero i) (has_own s i at.low ins);
-          part = part_at b qs made.rising s set p lawful 16 (set_at ms s i) (small_at s i) (holds_there s i at.low ins);
+          part = part_at b qs made.rising s set p lawful 16 (set_at ms s i) (small_or _ (made.small s i)) (holds_there s i at.low ins);
         },
       )
 

@@ -65,7 +65,6 @@ pub record Ground (b : Grid) (qs : List ℕ) (us ls : List (Option ℕ)) : Type 
   pub small : (s : Side) (i : ℕ) → IfSome (set_in (row_for s us ls) i) (λ set. set < 2 ^ 16)
   pub each : (s : Side) (i : ℕ) → i < length qs → Move b qs s (slice_index qs i) (set_in (row_for s us ls) i)
 
--- of all this there is one proof at most
 Rise-prop : (qs : List ℕ) → IsProp (Rise (λ q. q) qs)
 Rise-prop [] = Unit-prop
 Rise-prop (q ∷ qs) = ×_prop (AllByRecursion-prop (λ y. q < y) (λ y. le_prop) qs) (Rise-prop qs)
@@ -74,6 +73,7 @@ Move-prop : (b : Grid) (qs : List ℕ) (s : Side) (q : ℕ) (set : Option ℕ) �
 unfolding Move
 Move-prop b qs s q set = MatchOption-prop set _ _ (Coded-set coded_bool _ _) (λ m. ×_prop (Coded-set coded_bool _ _) (Π_prop (λ j. Coded-set coded_bool _ _)))
 
+-- of all this there is one proof at most
 pub Ground-prop : (b : Grid) (qs : List ℕ) (us ls : List (Option ℕ)) → IsProp (Ground b qs us ls)
 Ground-prop b qs us ls x y = λ t. record {
   inside = Π_prop (λ q. Π_prop (λ h. Coded-set coded_bool _ _)) x.inside y.inside t;

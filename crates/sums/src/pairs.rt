@@ -26,10 +26,7 @@ pub(crate) fn recall(pairs: &[u32], x: u16, y: u16) -> Option<u16>
     let key = key(x, y);
     let i = slot(pairs.len(), key)?;
     let form = pairs[2 * i + 1];
-    if pairs[2 * i] != key || form >= 16384 {
-        return None;
-    }
-    Some(form as u16)
+    (pairs[2 * i] == key && form < 16384).then(|| form as u16)
 }
 
 // Remembers the form of a sum, if there is a place.
