@@ -77,15 +77,6 @@ grown_start b p old open-p new less = record {
 }
 
 module _ (b : Grid) (wide : 0 < b.width) (from : ℕ) where
-  pub visited_start : (seen : List Bool) (qs : List ℕ) → Visited b from [] seen seen qs qs
-  visited_start seen qs = record {
-    longer = omega arith;
-    same = λ k h. refl;
-    kept = λ q e. e;
-    settled = tt;
-    grown = λ p old x h. x;
-  }
-
   -- what was found stays found
   found_still : (qs qs' : List ℕ) → length qs ≤ length qs' → ((k : ℕ) → k < length qs → get_or qs' k 0 ≡ get_or qs k 0) → (q : ℕ) → Has qs q → Has qs' q
   found_still qs qs' longer same q h =

@@ -1,6 +1,7 @@
+use Rattle.std.proofs.Common.{rules}
 use Rattle.rooms.specs.Values.{squares_of}
 use Rattle.rooms.proofs.room.Room.squares.Goals as goal
 
 pub returns : goal.returns
 unfolding squares_of
-returns c = c.as_slice.ensures
+returns c = search rules
