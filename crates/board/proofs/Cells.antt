@@ -1,9 +1,11 @@
 -- Lists of squares: the part of an array that is a board, its squares one by one, and how many are free.
-use Rattle.std.proofs.Common.{◌≡◌, ℕ, zero, suc, ◌+◌, ◌*◌, ◌<◌, ◌≤◌, Bool, true, false, ◌&&◌, ltb, List, [], ◌∷◌, length, get_or, take, drop, set, sym, refl, ap, ◌∙◌, arith}
+use Rattle.std.proofs.Common.{cond, count_by, ◌≡◌, ℕ, zero, suc, ◌+◌, ◌*◌, ◌<◌, ◌≤◌, Bool, true, false, ltb, List, [], ◌∷◌, length, get_or, take, drop, set, sym, refl, ap, ◌∙◌, arith}
+use Rattle.std.specs.List.{range_with_len}
+use Rattle.std.proofs.lemmas.List.Sums.{sum_by-cons}
 use Rattle.std.proofs.lemmas.List.{get_or-take, get_or_past, length-take, length-set, at_drop_more, at_drop_all}
 use Rattle.std.proofs.lemmas.Bool.{le-ltb}
-use Rattle.board.specs.Grid.{Grid, free, pick, free_count}
-use Rattle.board.specs.Moves.{each_free, taken}
+use Rattle.board.specs.Grid.{free, pick, free_count}
+use Rattle.board.specs.Moves.{taken}
 use Rattle.board.specs.Values.{grid_of}
 use Rattle.board.specs.declared.board.Board.{Board}
 
@@ -22,20 +24,6 @@ take_set (suc n) [] q c = refl
 take_set (suc n) (x ∷ xs) zero c = refl
 take_set (suc n) (x ∷ xs) (suc q) c = ap (λ l. x ∷ l) (take_set n xs q c)
 
--- a walk along squares that are asked for: one that is not free ends it, one that is free goes on, and past the last all were free
-module _ (b : Grid) (qs : List ℕ) (i : ℕ) (sofar : each_free b (drop i qs) ≡ each_free b qs) where
-  next : i < length qs → each_free b qs ≡ (free b (get_or qs i 0) && each_free b (drop (i + 1) qs))
-  next h = sym sofar ∙ at_drop_more (each_free b) qs i 0 h
-
-  pub walk_stops : i < length qs → false ≡ free b (get_or qs i 0) → false ≡ each_free b qs
-  walk_stops h no_more = sym (next h ∙ ap (λ t. t && each_free b (drop (i + 1) qs)) (sym no_more))
-
-  pub walk_goes : i < length qs → true ≡ free b (get_or qs i 0) → each_free b (drop (i + 1) qs) ≡ each_free b qs
-  walk_goes h on = sym (next h ∙ ap (λ t. t && each_free b (drop (i + 1) qs)) (sym on))
-
-  pub walk_ends : length qs ≤ i → true ≡ each_free b qs
-  walk_ends h = sym (at_drop_all (each_free b) qs i h) ∙ sofar
-
 -- one square more is taken; ys is the array after it
 pub taken_step : (n : ℕ) (xs ys : List Bool) (qs : List ℕ) (i : ℕ) {k : ℕ} {all : List Bool} → i < length qs →
     (length xs ≡ k) × (taken (take n xs) (drop i qs) ≡ all) → ys ≡ set xs (get_or qs i 0) false →
@@ -48,10 +36,18 @@ taken_step n xs ys qs i h inv e = (
 pub taken_all : (cells : List Bool) (qs : List ℕ) (i : ℕ) → length qs ≤ i → taken cells (drop i qs) ≡ cells
 taken_all cells qs i h = at_drop_all (taken cells) qs i h
 
-pub count_more : (cells : List Bool) (i n m k : ℕ) → i < length cells → n + free_count (drop i cells) ≡ k → m ≡ n + pick (get_or cells i false) 1 0 → m + free_count (drop (i + 1) cells) ≡ k
+-- the free squares from i on, counted by their places
+counted_from : (cells : List Bool) (i n : ℕ) → i + n ≡ length cells → count_by (λ p. get_or cells p false) (range_with_len i n) ≡ free_count (drop i cells)
 unfolding free_count
-count_more cells i n m k h e f = let d = at_drop_more free_count cells i false h in omega arith
+counted_from cells i zero e = sym (at_drop_all free_count cells i (omega arith))
+counted_from cells i (suc n) e =
+    sum_by-cons (λ p. cond (get_or cells p false) 1 0) i (range_with_len (i + 1) n)
+    ∙ (λ j. pick_cond (get_or cells i false) j + counted_from cells (i + 1) n (omega arith) j)
+    ∙ sym (at_drop_more free_count cells i false (omega arith))
+  where
+    pick_cond : (t : Bool) → ◌≡◌ {A = ℕ} (cond t 1 0) (pick t 1 0)
+    pick_cond true = refl
+    pick_cond false = refl
 
-pub count_all : (cells : List Bool) (i n k : ℕ) → length cells ≤ i → n + free_count (drop i cells) ≡ k → n ≡ k
-unfolding free_count
-count_all cells i n k h e = let d = at_drop_all free_count cells i h in omega arith
+pub counted : (cells : List Bool) (n : ℕ) → n ≡ length cells → count_by (λ p. get_or cells p false) (range_with_len 0 n) ≡ free_count cells
+counted cells n e = counted_from cells 0 n (omega arith)

@@ -1,5 +1,6 @@
 -- The list of checks, in parts: which refusal comes first, and what is read where all are passed.
-use Rattle.std.proofs.Common.{◌≡◌, ℕ, Bool, true, false, List, [], ◌∷◌, ◌++◌, length, Some, None, Ok, Err, Result, sym, refl, ap, ◌∙◌, arith, MatchResult}
+use Rattle.std.proofs.Common.{IsErrAnd, ◌≡◌, ℕ, Bool, true, false, List, [], ◌∷◌, ◌++◌, length, Some, None, Ok, Err, Result, sym, refl, ap, ◌∙◌, arith, MatchResult}
+use Rattle.std.proofs.lemmas.Result.{err_from_is_err_and}
 use Rattle.board.specs.Grid.{pick}
 use Rattle.board.specs.Values.{side_of, grid_of}
 use Rattle.board.specs.Reading.{Check, or_refuse, first_failed, head_checks, squares_check, refused, holds, outcome, side_in, grid_in, file_read, told, Set}
@@ -22,9 +23,12 @@ failed_after (k ∷ ks) ls h =
 
 -- a file, whose length is right or not
 module _ (long : Bool) (bs : List ℕ) where
-  pub head_refused : (e : Refusal) → first_failed (head_checks bs) ≡ Some e → refused e ≡ file_read long bs
+  pub head_refused : (r : Result Setup Refusal) (e : Refusal) → first_failed (head_checks bs) ≡ Some e → IsErrAnd r (λ y. y ≡ e) → told r ≡ file_read long bs
   unfolding file_read
-  head_refused e h = sym (ap (λ o. outcome o (holds (side_in bs) (grid_in bs))) (failed_before (head_checks bs) (or_refuse long (Length (length bs)) ∷ squares_check bs ∷ []) e h))
+  head_refused r e h is =
+      let p = err_from_is_err_and r is in
+      ap told p.1 ∙ ap refused p.2
+      ∙ sym (ap (λ o. outcome o (holds (side_in bs) (grid_in bs))) (failed_before (head_checks bs) (or_refuse long (Length (length bs)) ∷ squares_check bs ∷ []) e h))
 
   past_head : first_failed (head_checks bs) ≡ None → file_read long bs ≡ outcome (first_failed (or_refuse long (Length (length bs)) ∷ squares_check bs ∷ [])) (holds (side_in bs) (grid_in bs))
   unfolding file_read

@@ -1,5 +1,6 @@
 -- Neighbours, and the ways to them; and how large a board is.
-use Rattle.std.proofs.Common.{◌≡◌, ℕ, ◌+◌, ◌-◌, ◌*◌, ◌%◌, ◌<◌, ◌≤◌, true, false, ◌⊎◌, length, Some, None, sym, refl, ap, ◌∙◌, subst, inl, inr, ⊎_elim, arith}
+use Rattle.std.proofs.Common.{Bool, Option, MatchOption, ◌≡◌, ℕ, ◌+◌, ◌-◌, ◌*◌, ◌%◌, ◌<◌, ◌≤◌, true, false, ◌⊎◌, length, Some, None, sym, refl, ap, ◌∙◌, subst, inl, inr, ⊎_elim, arith}
+use Rattle.std.specs.Bool.{then_some}
 use Rattle.std.proofs.lemmas.List.{get_or_past, length-take}
 use Rattle.std.proofs.lemmas.Bool.{both_ways, cases_lt}
 use Rattle.board.specs.Grid.{Grid, free, Edge, Next}
@@ -103,15 +104,15 @@ module _ (b : Grid) (p : ℕ) (w : Way) where
       subst (λ v. (q : ℕ) → Toward b v p q → free b q ≡ true → ⊥) (sym e)
       (λ q t f. let k = free_below b q f in omega arith)
 
-  -- the square there is taken, or free
-  pub neighbour_taken : (q : ℕ) → Lies b p w (Some q) → free b q ≡ false → Neighbour b p w None
+  -- the square there, if it is free
+  pub neighbour_if_free : (o r : Option ℕ) (Said : ℕ → Bool → Type 0) → Lies b p w o →
+      MatchOption o (r ≡ None) (λ q. (t : Bool) × Said q t × (r ≡ then_some t q)) → ((q : ℕ) (t : Bool) → Said q t → t ≡ free b q) →
+      Neighbour b p w r
   unfolding Lies Neighbour
-  neighbour_taken q lies taken r t f = both_ways (free b q) taken (ap (free b) (one_there b w p q r lies t) ∙ f)
-
-  pub neighbour_free : (q : ℕ) → Lies b p w (Some q) → free b q ≡ true → Neighbour b p w (Some q)
-  unfolding Lies Neighbour
-  neighbour_free q lies f = (lies, f)
-
-  pub neighbour_none : Lies b p w None → Neighbour b p w None
-  unfolding Lies Neighbour
-  neighbour_none lies = lies
+  neighbour_if_free None r Said lies e means = subst (Neighbour b p w) (sym e) lies
+  neighbour_if_free (Some q) r Said lies e means =
+      subst (Neighbour b p w) (sym e.2)
+      (elim e.0 as (λ t. t ≡ free b q → Neighbour b p w (then_some t q)) [
+        | true ↦ λ is. (lies, sym is)
+        | false ↦ λ is r t f. both_ways (free b q) (sym is) (ap (free b) (one_there b w p q r lies t) ∙ f)
+      ] (means q e.0 e.1))

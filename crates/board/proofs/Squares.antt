@@ -1,25 +1,20 @@
 -- A walk along the bytes of a file that stand for squares.
-use Rattle.std.proofs.Common.{◌≡◌, ℕ, suc, ◌+◌, ◌-◌, ◌*◌, ◌<◌, ◌≤◌, Bool, true, false, List, [], ◌∷◌, ◌++◌, map, length, get_or, take, drop, set, Some, None, sym, ap, ◌∙◌, mul-le-mul, arith}
-use Rattle.std.proofs.lemmas.List.{at_drop_more, at_drop_all, take_more_set, map_more, take_all, length-take, length-drop}
-use Rattle.std.proofs.lemmas.Bool.{eq-eqb}
+use Rattle.std.proofs.Common.{◌≡◌, ℕ, not, ltb, position, MatchOption, Option, subst, refl, ◌+◌, ◌-◌, ◌*◌, ◌<◌, ◌≤◌, Bool, List, [], ◌∷◌, ◌++◌, map, length, get_or, take, drop, set, Some, None, sym, ap, ◌∙◌, mul-le-mul, arith}
+use Rattle.std.proofs.lemmas.List.Sums.{prefix_len-le-length}
+use Rattle.std.proofs.lemmas.List.{take_more_set, map_more, take_all, length-take, length-drop}
+use Rattle.std.proofs.lemmas.Bool.{eq-eqb, cond_both, ltb-true, ltb-false}
 use Rattle.board.specs.declared.refusal.Refusal.TheVariants.{Square}
 use Rattle.board.specs.Grid.{Grid, pick}
 use Rattle.board.specs.Reading.{is_free, is_square_byte, bad_at, first_failed, squares_check, squares, asked, grid_in}
 
--- the first i bytes are squares
-module _ (cs : List ℕ) (i : ℕ) (sofar : i + bad_at (drop i cs) ≡ bad_at cs) where
-  pub bad_here : i < length cs → is_square_byte (get_or cs i 0) ≡ false → i ≡ bad_at cs
-  bad_here h e =
-      let f : bad_at (drop i cs) ≡ 0 = at_drop_more bad_at cs i 0 h ∙ ap (λ t. pick t (suc (bad_at (drop (i + 1) cs))) 0) e in
-      omega arith
-
-  pub bad_further : i < length cs → is_square_byte (get_or cs i 0) ≡ true → i + 1 + bad_at (drop (i + 1) cs) ≡ bad_at cs
-  bad_further h e =
-      let f : bad_at (drop i cs) ≡ suc (bad_at (drop (i + 1) cs)) = at_drop_more bad_at cs i 0 h ∙ ap (λ t. pick t (suc (bad_at (drop (i + 1) cs))) 0) e in
-      omega arith
-
-  pub bad_nowhere : i ≡ length cs → bad_at cs ≡ length cs
-  bad_nowhere h = let f : bad_at (drop i cs) ≡ 0 = at_drop_all bad_at cs i (omega arith) in omega arith
+-- the first byte that is no square, as it is found
+pub bad_found : (cs : List ℕ) (r : Option ℕ) → r ≡ position (λ c. not (is_square_byte c)) cs →
+    MatchOption r (bad_at cs ≡ length cs) (λ i. (i ≡ bad_at cs) × (i < length cs))
+bad_found cs r e =
+    let P : Option ℕ → Type 0 = λ o. MatchOption o (bad_at cs ≡ length cs) (λ i. (i ≡ bad_at cs) × (i < length cs)) in
+    subst P (sym e) (cond_both (ltb (bad_at cs) (length cs)) (Some (bad_at cs)) None P
+    (λ t. (refl, ltb-true (bad_at cs) (length cs) t))
+    (λ f. let h = ltb-false (bad_at cs) (length cs) f in let k = prefix_len-le-length (λ c. not (not (is_square_byte c))) cs in omega arith))
 
 -- one square more is written
 pub cells_more : (cs : List ℕ) (i : ℕ) (free : List Bool) → i < length cs → i < length free → take i free ≡ map is_free (take i cs) →
@@ -35,22 +30,24 @@ module _ (bs : List ℕ) (w h : ℕ) (wide : w ≡ get_or bs 0 0) (high : h ≡ 
   pub asked_is : w * h ≡ asked bs
   asked_is = λ i. wide i * high i
 
-  pub part_is : take (3 + w * h - 3) (drop 3 bs) ≡ squares bs
-  part_is = let e : 3 + w * h - 3 ≡ w * h = omega arith in ap (λ n. take n (drop 3 bs)) (e ∙ asked_is)
+  -- as many as n
+  module _ (n : ℕ) (size : n ≡ w * h) where
+    pub part_is : take (3 + n - 3) (drop 3 bs) ≡ squares bs
+    part_is = let e : 3 + n - 3 ≡ n = omega arith in ap (λ m. take m (drop 3 bs)) (e ∙ size ∙ asked_is)
 
-  -- they are all squares
-  pub all_squares : bad_at (take (3 + w * h - 3) (drop 3 bs)) ≡ length (take (3 + w * h - 3) (drop 3 bs)) → first_failed (squares_check bs ∷ []) ≡ None
-  all_squares e =
-      ap (λ t. pick t None (Some (Square (3 + bad_at (squares bs)))))
-      (eq-eqb (bad_at (squares bs)) (length (squares bs)) (ap bad_at (sym part_is) ∙ e ∙ ap length part_is))
+    -- they are all squares
+    pub all_squares : bad_at (take (3 + n - 3) (drop 3 bs)) ≡ length (take (3 + n - 3) (drop 3 bs)) → first_failed (squares_check bs ∷ []) ≡ None
+    all_squares e =
+        ap (λ t. pick t None (Some (Square (3 + bad_at (squares bs)))))
+        (eq-eqb (bad_at (squares bs)) (length (squares bs)) (ap bad_at (sym part_is) ∙ e ∙ ap length part_is))
 
-  -- and the array has them
-  pub grid_read : (free : List Bool) → asked bs + 3 ≤ length bs → take (length (take (3 + w * h - 3) (drop 3 bs))) free ≡ map is_free (take (3 + w * h - 3) (drop 3 bs)) →
-      ◌≡◌ {A = Grid} (record { width = w; cells = take (w * h) free }) (grid_in bs)
-  grid_read free long e =
-      let same = asked_is in
-      let n : w * h ≡ length (take (3 + w * h - 3) (drop 3 bs)) = simp (length-take, length-drop) (omega arith) in
-      λ i. record { width = wide i; cells = (ap (λ m. take m free) n ∙ e ∙ ap (map is_free) part_is) i }
+    -- and the array has them
+    pub grid_read : (free : List Bool) → asked bs + 3 ≤ length bs → take (length (take (3 + n - 3) (drop 3 bs))) free ≡ map is_free (take (3 + n - 3) (drop 3 bs)) →
+        ◌≡◌ {A = Grid} (record { width = w; cells = take (w * h) free }) (grid_in bs)
+    grid_read free long e =
+        let same = asked_is in
+        let k : w * h ≡ length (take (3 + n - 3) (drop 3 bs)) = simp (length-take, length-drop) (omega arith) in
+        λ i. record { width = wide i; cells = (ap (λ m. take m free) k ∙ e ∙ ap (map is_free) part_is) i }
 
 -- at most 16 by 16 squares
 pub few : (w h : ℕ) → w ≤ 16 → h ≤ 16 → w * h ≤ 256

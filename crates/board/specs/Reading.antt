@@ -1,10 +1,13 @@
 -- Reading a file: the list of checks in its order, and what a file that passes them holds.
-use Rattle.std.specs.Prelude.{◌≡◌, ℕ, suc, ◌+◌, ◌-◌, ◌*◌, ◌≤◌, Bool, ◌&&◌, ◌||◌, List, [], ◌∷◌, ◌++◌, map, length, take, drop, Some, None, Ok, Err, Option, Result, ◌==◌, nat_le, nat_lt, slice_index}
+use Rattle.std.specs.Prelude.{◌≡◌, ℕ, ◌+◌, ◌-◌, ◌*◌, ◌≤◌, Bool, true, false, not, ◌&&◌, ◌||◌, List, [], ◌∷◌, ◌++◌, map, length, take, drop, Some, None, Ok, Err, Option, Result, ◌==◌, nat_le, nat_lt, slice_index}
+use Rattle.std.specs.List.{position_or_len}
 use Rattle.board.specs.Grid.{Grid, Side, pick}
 use Rattle.board.specs.Values.{side_of, grid_of}
 use Rattle.board.specs.declared.refusal.Refusal.{Refusal}
 use Rattle.board.specs.declared.refusal.Refusal.TheVariants.{Width, Height, Letter, Length, Square}
 use Rattle.board.specs.declared.read.Setup.{Setup}
+use Rattle.board.specs.declared.side.Side.{Side as Player}
+use Rattle.board.specs.declared.side.UnknownSide.{UnknownSide}
 
 -- a width or a height: 1 to 16
 abbrev pub sized : ℕ → Bool
@@ -13,6 +16,11 @@ sized n = nat_le 1 n && nat_le n 16
 -- the letter u or f
 abbrev pub is_letter : ℕ → Bool
 is_letter c = c == 117 || c == 102
+
+-- the side that a letter stands for, or that it stands for none
+abbrev pub Named : ℕ → Result Player UnknownSide → Type 0
+Named c (Ok s) = (is_letter c ≡ true) × (side_of s ≡ (c == 117))
+Named c (Err e) = (is_letter c ≡ false) × (e.0 ≡ c)
 
 -- a square is written . where it is free and # where it is taken
 abbrev pub is_free : ℕ → Bool
@@ -23,8 +31,7 @@ is_square_byte c = is_free c || c == 35
 
 -- where the first byte stands that is no square; their number if all are squares
 abbrev pub bad_at : List ℕ → ℕ
-bad_at [] = 0
-bad_at (c ∷ cs) = pick (is_square_byte c) (suc (bad_at cs)) 0
+bad_at cs = position_or_len (λ c. not (is_square_byte c)) cs
 
 -- a check of a file, and the refusal where the file fails it
 pub record Check : Type 0 where

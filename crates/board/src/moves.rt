@@ -27,23 +27,19 @@ impl Board {
     pub fn may(&self, side: Side, place: u16) -> bool
         ensures { result ≡ may (grid_of self.now) (side_of side) place }
     {
-        match self.covers(side, place) {
-            Some(squares) => self.all_free(&squares),
-            None => false,
-        }
+        self.covers(side, place).is_some_and(
+            |squares|
+                ensures { result ≡ each_free (grid_of self.entry.now) squares }
+            { self.all_free(&squares) },
+        )
     }
 
     // The board after this side has laid at this place, or None where it may not.
     pub fn lay(&self, side: Side, place: u16) -> Option<Board>
         ensures { LaidAt (grid_of self.now) (side_of side) place result }
     {
-        let Some(squares) = self.covers(side, place) else {
-            return None;
-        };
-        if !self.all_free(&squares) {
-            return None;
-        }
-        Some(self.without(&squares))
+        let squares = self.covers(side, place)?;
+        self.all_free(&squares).then(|| self.without(&squares))
     }
 
     // The squares that a move covers, or None where it would leave the board or its row.
@@ -69,12 +65,7 @@ impl Board {
     fn all_free(&self, squares: &[u16]) -> bool
         ensures { result ≡ each_free (grid_of self.now) squares.now }
     {
-        for q in squares {
-            if !self.is_free(*q) {
-                return false;
-            }
-        }
-        true
+        squares.iter().all(|q| self.is_free(*q))
     }
 
     // The board with these squares taken.
@@ -99,12 +90,6 @@ impl Board {
     pub fn count_free(&self) -> u16
         ensures { result ≡ free_count (grid_of self.now).cells }
     {
-        let mut n = 0;
-        for p in 0..self.size() {
-            if self.is_free(p) {
-                n += 1;
-            }
-        }
-        n
+        (0..self.size()).filter(|p| self.is_free(*p)).count() as u16
     }
 }

@@ -10,13 +10,7 @@ impl Board {
     pub fn neighbour(&self, square: u16, way: Way) -> Option<u16>
         ensures { Neighbour (grid_of self.now) square way result }
     {
-        let Some(next) = self.beside(square, way) else {
-            return None;
-        };
-        if !self.is_free(next) {
-            return None;
-        }
-        Some(next)
+        self.beside(square, way).filter(|q| self.is_free(*q))
     }
 
     // The square that lies this way from another, or None where the row or the board ends.

@@ -1,6 +1,6 @@
 // Reading a board, or a record, from bytes: a width, a height, the letter of the side to move, the squares; in a record the planks' places follow.
-ghost use Rattle.std.specs.Prelude.{◌≡◌, ◌+◌, ◌<◌, ◌≤◌, true, false, [], ◌∷◌, map, length, take, Some, None, MatchOption, MatchResult, ◌==◌};
-ghost use Rattle.board.specs.Reading.{sized, is_letter, is_free, is_square_byte, bad_at, first_failed, head_checks, squares_check, asked, Headed, Set, told, board_read, record_read, places_in};
+ghost use Rattle.std.specs.Prelude.{◌≡◌, ◌+◌, ◌*◌, ◌<◌, ◌≤◌, IsTrue, true, false, [], ◌∷◌, map, length, take, Some, None, MatchOption, MatchResult};
+ghost use Rattle.board.specs.Reading.{sized, is_free, is_square_byte, bad_at, first_failed, head_checks, squares_check, asked, Headed, Set, told, file_read, board_read, record_read, places_in};
 ghost use Rattle.board.specs.Values.{side_of, grid_of};
 
 use crate::board::Board;
@@ -22,26 +22,20 @@ struct Head {
     side: Side,
 }
 
+impl Head {
+    // How many squares they ask for.
+    fn size(&self) -> usize
+        ensures { result ≡ self.now.width * self.now.height }
+    {
+        self.width as usize * self.height as usize
+    }
+}
+
 // A width or a height is 1 to 16.
 fn extent(byte: u8) -> Option<u8>
     ensures { MatchOption result (sized byte ≡ false) (λ n. (sized byte ≡ true) × (n ≡ byte)) }
 {
-    if byte >= 1 && byte <= 16 {
-        Some(byte)
-    } else {
-        None
-    }
-}
-
-// The side that a letter stands for.
-fn side_of(letter: u8) -> Option<Side>
-    ensures { MatchOption result (is_letter letter ≡ false) (λ s. (is_letter letter ≡ true) × (side_of s ≡ (letter == 117))) }
-{
-    match letter {
-        b'u' => Some(Side::Upright),
-        b'f' => Some(Side::Flat),
-        _ => None,
-    }
+    (1..=16).contains(&byte).then_some(byte)
 }
 
 // The checks of the first three bytes, in their order.
@@ -64,7 +58,7 @@ fn read_head(bytes: &[u8]) -> Result<Head, Refusal>
     if bytes.len() < 3 {
         return Err(short);
     }
-    let Some(side) = side_of(bytes[2]) else {
+    let Ok(side) = Side::try_from(bytes[2]) else {
         return Err(Refusal::Letter);
     };
     Ok(Head {
@@ -78,19 +72,14 @@ fn read_head(bytes: &[u8]) -> Result<Head, Refusal>
 fn is_square(c: u8) -> bool
     ensures { result ≡ is_square_byte c }
 {
-    c == b'.' || c == b'#'
+    matches!(c, b'.' | b'#')
 }
 
 // Where the first byte stands that is no square.
 fn first_bad(squares: &[u8]) -> Option<usize>
     ensures { MatchOption result (bad_at squares.now ≡ length squares.now) (λ i. (i ≡ bad_at squares.now) × (i < length squares.now)) }
 {
-    for (i, c) in squares.iter().enumerate() {
-        if !is_square(*c) {
-            return Some(i);
-        }
-    }
-    None
+    squares.iter().position(|c| !is_square(*c))
 }
 
 // Which of the squares are free.
@@ -111,8 +100,7 @@ fn read_squares(head: Head, bytes: &[u8]) -> Result<Setup, Refusal>
     requires bytes_in_bounds { asked bytes.now + 3 ≤ length bytes.now }
     ensures { MatchResult result (λ x. Set bytes.now (side_of x.side) (grid_of x.board)) (λ e. first_failed (squares_check bytes.now ∷ []) ≡ Some e) }
 {
-    let size = head.width as usize * head.height as usize;
-    let squares = &bytes[3..3 + size];
+    let squares = &bytes[3..3 + head.size()];
     if let Some(i) = first_bad(squares) {
         return Err(Refusal::Square(3 + i));
     }
@@ -127,32 +115,32 @@ fn read_squares(head: Head, bytes: &[u8]) -> Result<Setup, Refusal>
     })
 }
 
+// The checks that follow those of the first three bytes: the length, which is right or not, and the squares.
+fn read_rest(head: Head, bytes: &[u8], long: bool) -> Result<Setup, Refusal>
+    requires headed { Headed bytes.now head.width head.height (side_of head.side) }
+    requires bytes_in_bounds { IsTrue long → asked bytes.now + 3 ≤ length bytes.now }
+    ensures { told result ≡ file_read long bytes.now }
+{
+    if !long {
+        return Err(Refusal::Length(bytes.len()));
+    }
+    read_squares(head, bytes)
+}
+
 // The board that a file holds, exactly, or the first refusal of the list that applies.
 pub fn read_board(bytes: &[u8]) -> Result<Setup, Refusal>
     ensures { told result ≡ board_read bytes.now }
 {
-    let head = match read_head(bytes) {
-        Ok(head) => head,
-        Err(e) => return Err(e),
-    };
-    if bytes.len() - 3 != head.width as usize * head.height as usize {
-        return Err(Refusal::Length(bytes.len()));
-    }
-    read_squares(head, bytes)
+    let head = read_head(bytes)?;
+    read_rest(head, bytes, bytes.len() - 3 == head.size())
 }
 
 // The board that a record begins with, or the first refusal of the list that applies.
 pub fn read_record(bytes: &[u8]) -> Result<Setup, Refusal>
     ensures { told result ≡ record_read bytes.now }
 {
-    let head = match read_head(bytes) {
-        Ok(head) => head,
-        Err(e) => return Err(e),
-    };
-    if bytes.len() - 3 < head.width as usize * head.height as usize {
-        return Err(Refusal::Length(bytes.len()));
-    }
-    read_squares(head, bytes)
+    let head = read_head(bytes)?;
+    read_rest(head, bytes, bytes.len() - 3 >= head.size())
 }
 
 // The places of a record's planks: the bytes that follow its squares.

@@ -1,6 +1,7 @@
 // The two sides: one lays upright planks, the other flat ones.
 ghost use Rattle.std.specs.Prelude.{◌≡◌, [], ◌∷◌, Some};
 ghost use Rattle.board.specs.Values.{side_of, letter_of};
+ghost use Rattle.board.specs.Reading.{Named};
 ghost use Rattle.board.specs.Grid.{other};
 
 use std::fmt;
@@ -19,6 +20,25 @@ impl Side {
         match self {
             Side::Upright => Side::Flat,
             Side::Flat => Side::Upright,
+        }
+    }
+}
+
+// A letter that stands for no side.
+#[derive(Clone, Copy, Debug, PartialEq, Eq)]
+pub struct UnknownSide(pub u8);
+
+// The side that a letter stands for.
+impl TryFrom<u8> for Side {
+    type Error = UnknownSide;
+
+    ghost try_from_gives = { Named };
+
+    fn try_from(letter: u8) -> Result<Side, UnknownSide> {
+        match letter {
+            b'u' => Ok(Side::Upright),
+            b'f' => Ok(Side::Flat),
+            _ => Err(UnknownSide(letter)),
         }
     }
 }

@@ -5,38 +5,28 @@ ghost use Rattle.board.specs.Tree.{TreeLaw, TreeFuel, BoardGames};
 ghost use Rattle.board.specs.Ways.{WaysLaw};
 
 // A lawful move covers its place and at least one square more, each a neighbour of one before it, and all of them free.
-pub fn moves_stand() -> u8
+pub fn moves_stand()
     ensures { MovesLaw }
-{
-    0
-}
+{}
 
 // The neighbours of a square are those that lie one of the four ways from it.
-pub fn ways_stand() -> u8
+pub fn ways_stand()
     ensures { WaysLaw }
-{
-    0
-}
+{}
 
 // A board and its game are won by the same side; moves beyond the number of free squares change nothing in the game.
-pub fn tree_stands() -> u8
+pub fn tree_stands()
     ensures law { TreeLaw }
     ensures fuel { TreeFuel }
-{
-    0
-}
+{}
 
 // Who is told a place by a judge whose answers are right, and goes on as told, makes the last lawful move, unless a board on the way is refused.
-pub fn play_stands() -> u8
+pub fn play_stands()
     ensures { PlayWins }
-{
-    0
-}
+{}
 
 // The games of two small boards, compared, and plays on them.
-pub fn board_games_stand() -> u8
+pub fn board_games_stand()
     ensures games { BoardGames }
     ensures plays { Plays }
-{
-    0
-}
+{}

@@ -1,4 +1,6 @@
 // Forms and play, compared on every board of three by three.
+ghost use Rattle.std.specs.Prelude.{◌≤◌};
+
 use crate::forms_of::BLANK;
 use board::read::read_board;
 use forms::table::start;
@@ -14,9 +16,9 @@ fn board_of(taken: u16, side: u8) -> [u8; 12] {
     bytes[1] = 3;
     bytes[2] = side;
     let mut rest = taken;
-    for i in 3..12 {
+    for square in &mut bytes[3..] {
         if rest % 2 == 1 {
-            bytes[i] = b'#';
+            *square = b'#';
         }
         rest /= 2;
     }
@@ -51,23 +53,20 @@ fn is_same(rt: &HostRuntime, bytes: &[u8]) -> bool {
     ) else {
         return false;
     };
-    match (found, first_win(&setup.board, setup.side)) {
-        (Some(p), Some(q)) => p == q,
-        (None, None) => true,
-        _ => false,
-    }
+    found == first_win(&setup.board, setup.side)
+}
+
+// On how many of the boards they agree, with this side to move.
+fn agreed(rt: &HostRuntime, side: u8) -> usize
+    ensures { result ≤ 512 }
+{
+    (0..512)
+        .filter(|taken| is_same(rt, &board_of(*taken, side)))
+        .count()
 }
 
 // On how many of the boards they agree, for both sides.
 pub(crate) fn agreement(rt: &HostRuntime) -> io::Result<()> {
-    let mut count: u32 = 0;
-    for taken in 0..512 {
-        if is_same(rt, &board_of(taken, b'u')) {
-            count = count.saturating_add(1);
-        }
-        if is_same(rt, &board_of(taken, b'f')) {
-            count = count.saturating_add(1);
-        }
-    }
+    let count = agreed(rt, b'u') + agreed(rt, b'f');
     println!(rt; "three by three: forms and play agree on {count} of 1024 boards")
 }

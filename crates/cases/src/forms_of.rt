@@ -19,13 +19,7 @@ pub(crate) const BLANK: Form = Form {
 
 // How many of these sets something is known of.
 fn count_noted(sets: &[u32]) -> usize {
-    let mut count: usize = 0;
-    for noted in sets {
-        if *noted > 0 {
-            count = count.saturating_add(1);
-        }
-    }
-    count
+    sets.iter().filter(|noted| **noted > 0).count()
 }
 
 // How many forms a room has at how many positions, in a table that goes on from room to room. It answers how many forms are in use then.

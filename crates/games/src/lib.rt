@@ -10,40 +10,32 @@ ghost use Rattle.games.specs.Count.{OneSum, SumTells, OneMore, BetweenForms, One
 ghost use Rattle.games.specs.Examples.{Examples};
 
 // The order is one, and decided: of two games the one is at most the other or is not.
-pub fn order_stands() -> u8
+pub fn order_stands()
     ensures order { Order }
     ensures decided { Decided }
-{
-    0
-}
+{}
 
 // In every row of games the side to move makes the last move or does not, never both.
-pub fn outcome_stands() -> u8
+pub fn outcome_stands()
     ensures { Outcome }
-{
-    0
-}
+{}
 
 // Games are equal exactly if they stand for each other beside whatever games.
-pub fn equality_stands() -> u8
+pub fn equality_stands()
     ensures { TestRight }
-{
-    0
-}
+{}
 
 // Test numbers rise. Where two games stand apart among them, this decides their order; and where a game stands follows from where its options do.
-pub fn bounds_stand() -> u8
+pub fn bounds_stand()
     ensures rise { NumbersRise }
     ensures decide { BoundsDecide }
     ensures hot { BoundsHot }
     ensures cold { BoundsCold }
-{
-    0
-}
+{}
 
 // Every two games have a sum, and a game equal to it stands for the two. The sum respects equality; the order and the grouping of its parts
 // do not matter; the empty game is its zero, and the game with the players exchanged the negative.
-pub fn sum_stands() -> u8
+pub fn sum_stands()
     ensures stands { SumStands }
     ensures exists { SumExists }
     ensures equal { SumEqual }
@@ -51,61 +43,47 @@ pub fn sum_stands() -> u8
     ensures groups { SumGroups }
     ensures zero { SumEmpty }
     ensures negative { SumNeg }
-{
-    0
-}
+{}
 
 // A dominated option may be struck and a reversible one bypassed, for either side: the game stays equal.
-pub fn options_stand() -> u8
+pub fn options_stand()
     ensures strike { Strike }
     ensures bypass { Bypass }
-{
-    0
-}
+{}
 
 // Every game is equal to a canonical one. Canonical games that are equal are identical, and identical games are equal. What is reached from a
 // canonical game is equal to something reached from any game equal to it.
-pub fn form_stands() -> u8
+pub fn form_stands()
     ensures exists { HasForm }
     ensures one { OneForm }
     ensures equal { IdenticalEqual }
     ensures reached { FormReached }
-{
-    0
-}
+{}
 
 // A row of games has one canonical sum; it stands for the row, and comparing it with the empty game tells who wins, whoever is to move. One more
 // game brings the forms between the sum so far and the game; for those the forms of the game's positions serve as well.
-pub fn row_stands() -> u8
+pub fn row_stands()
     ensures one { OneSum }
     ensures tells { SumTells }
     ensures more { OneMore }
     ensures forms { BetweenForms }
-{
-    0
-}
+{}
 
 // A row of games has one count of canonical forms. A table of forms, no two equal, is no longer than the count, and one with every form no shorter.
 // A form with few options for each player has no equal canonical form with many.
-pub fn count_stands() -> u8
+pub fn count_stands()
     ensures one { OneCount }
     ensures least { CountLeast }
     ensures most { CountMost }
     ensures narrow { NotWide }
-{
-    0
-}
+{}
 
 // A test that computes is true exactly if a game is at most another, and false exactly if it is not.
-pub fn test_stands() -> u8
+pub fn test_stands()
     ensures { Computed }
-{
-    0
-}
+{}
 
 // A few small games compared by that test, and a sum.
-pub fn examples() -> u8
+pub fn examples()
     ensures { Examples }
-{
-    0
-}
+{}

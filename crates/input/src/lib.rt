@@ -32,8 +32,7 @@ pub fn given_file(rt: &HostRuntime, program: &str) -> io::Result<Vec<u8>>
 
 // The program's one argument.
 fn one_argument(rt: &HostRuntime) -> io::Result<String> {
-    let mut args = env::args(rt)?;
-    let _ = args.next();
+    let mut args = env::args(rt)?.skip(1);
     let Some(name) = args.next() else {
         return Err(io::Error::other("a file is wanted"));
     };

@@ -1,6 +1,9 @@
 -- A record's planks laid one by one.
-use Rattle.std.proofs.Common.{◌≡◌, ℕ, ◌+◌, ◌<◌, ◌≤◌, true, false, List, length, get_or, drop, sym, ap, ◌∙◌, arith}
+use Rattle.std.proofs.Common.{Bool, MatchBool, ◌≡◌, ℕ, ◌+◌, ◌<◌, ◌≤◌, true, false, List, length, get_or, drop, sym, ap, ◌∙◌, arith}
 use Rattle.std.proofs.lemmas.List.{at_drop_more, at_drop_all}
+use Rattle.std.specs.List.{list_any, range_with_len}
+use Rattle.std.proofs.lemmas.List.Folds.{Any-from_list_any, list_any_at}
+use Rattle.std.proofs.lemmas.List.FromFn.{get_or-range_with_len, length-range_with_len}
 use Rattle.std.proofs.lemmas.Bool.{both_ways}
 use Rattle.board.specs.Grid.{Grid, Side, other, pick}
 use Rattle.board.specs.Moves.{may, laid}
@@ -25,6 +28,15 @@ module _ (ps : List ℕ) (i : ℕ) (s : Side) (b : Grid) (all : Played) (sofar :
   pub play_ends : length ps ≤ i → ends s b ≡ all
   play_ends h = sym (at_drop_all (played i s b) ps i h) ∙ sofar
 
--- no place of the board may be laid at
-pub stuck : (s : Side) (b : Grid) (k : ℕ) → length b.cells ≤ k → ((p : ℕ) → p < k → may b s p ≡ false) → Stuck s b
-stuck s b k h none p m = both_ways (may b s p) (none p (let low = may_below b s p m in omega arith)) m
+-- some place of the board may be laid at, or none may
+pub laid_somewhere :
+    (s : Side) (b : Grid) (n : ℕ) (r : Bool) → n ≡ length b.cells → r ≡ list_any (may b s) (range_with_len 0 n) → MatchBool r (Stuck s b → ⊥) (Stuck s b)
+laid_somewhere s b n r long e =
+    elim r as (λ t. t ≡ list_any (may b s) (range_with_len 0 n) → MatchBool t (Stuck s b → ⊥) (Stuck s b)) [
+      | true ↦ λ some stuck. let at = Any-from_list_any (may b s) (range_with_len 0 n) (sym some) in stuck at.1 at.4
+      | false ↦ λ none p m.
+          let low = may_below b s p m in
+          let here = get_or-range_with_len 0 n p 0 (omega arith) in
+          both_ways (list_any (may b s) (range_with_len 0 n)) (sym none)
+          (list_any_at (may b s) (range_with_len 0 n) p 0 (let k = length-range_with_len 0 n in omega arith) (ap (may b s) (let h : get_or (range_with_len 0 n) p 0 ≡ p = omega arith in h) ∙ m))
+    ] e

@@ -1,24 +1,30 @@
 -- The whole answer of the referee from its parts, and that no other fits.
-use Rattle.std.proofs.Common.{◌≡◌, ℕ, List, Ok, Err, Result, sym, refl, ap, ◌∙◌, subst}
+use Rattle.std.proofs.Common.{IsErrAnd, ◌≡◌, ℕ, List, Ok, Err, Result, sym, ap, ◌∙◌, subst}
+use Rattle.std.proofs.lemmas.Result.{err_from_is_err_and}
 use Rattle.board.specs.Grid.{Grid, Side}
 use Rattle.board.specs.Reading.{Read, refused, holds, record_read, places_in}
 use Rattle.board.specs.declared.refusal.Refusal.{Refusal}
 use Rattle.verdict.proofs.Answers.{same_side, one_judgement}
-use Rattle.verdict.specs.Judging.{OneJudgement}
+use Rattle.board.specs.Rules.{Stuck}
+use Rattle.verdict.specs.Judging.{Judged, OneJudgement}
 use Rattle.referee.specs.Following.{Played, stopped, ends, played, Ended, AfterPlay, AfterRead, Followed, OneFollowing}
 use Rattle.referee.specs.declared.outcome.Outcome.{Outcome}
 use Rattle.referee.specs.declared.outcome.Outcome.TheVariants.{LastMove, Open}
 
 -- a file that is refused
-pub not_read : (bs : List ℕ) (e : Refusal) → refused e ≡ record_read bs → Followed bs (Err e)
+pub not_read : (bs : List ℕ) (e : Refusal) (r : Result Outcome Refusal) → refused e ≡ record_read bs → IsErrAnd r (λ f. f ≡ e) → Followed bs r
 unfolding Followed
-not_read bs e h = subst (λ x. AfterRead x (places_in bs) (Err e)) h refl
+not_read bs e r h is = let f = err_from_is_err_and r is in subst (λ x. AfterRead x (places_in bs) r) h (f.1 ∙ ap Err f.2)
 
 -- a file that is read, and whose planks lead to x
 pub is_read : (bs ps : List ℕ) (s : Side) (b : Grid) (x : Played) (r : Result Outcome Refusal) → holds s b ≡ record_read bs → ps ≡ places_in bs → x ≡ played 0 s b ps → AfterPlay x r → Followed bs r
 unfolding Followed
 is_read bs ps s b x r h places e after =
     subst (λ y. AfterRead y (places_in bs) r) h (subst (λ y. AfterPlay y r) (e ∙ ap (played 0 s b) places) after)
+
+-- the board that the planks lead to is refused
+pub not_judged : (s : Side) (b : Grid) (e : Refusal) (r : Result Outcome Refusal) → (Stuck s b → ⊥) → Judged s b (Err e) → IsErrAnd r (λ f. f ≡ e) → Ended s b r
+not_judged s b e r free h is = let f = err_from_is_err_and r is in subst (Ended s b) (sym (f.1 ∙ ap Err f.2)) (free, h)
 
 same_standing : (s : Side) (b : Grid) (x y : Result Outcome Refusal) → Ended s b x → Ended s b y → x ≡ y
 unfolding OneJudgement

@@ -16,22 +16,15 @@ use verdict::judge::judge;
 pub fn follow(bytes: &[u8]) -> Result<Outcome, Refusal>
     ensures { Followed bytes.now result }
 {
-    let start = match read_record(bytes) {
-        Ok(start) => start,
-        Err(e) => return Err(e),
-    };
-    match play(start, places(bytes)) {
-        Ok(end) => standing(&end.board, end.side),
-        Err(e) => Err(e),
-    }
+    let start = read_record(bytes)?;
+    let end = play(start, places(bytes))?;
+    standing(&end.board, end.side)
 }
 
 // Nothing else fits: two answers that meet the contract of follow are the same.
-pub fn following_stands() -> u8
+pub fn following_stands()
     ensures { OneFollowing }
-{
-    0
-}
+{}
 
 // The board after planks at these places, laid in turn, or which of them is the first that may not be laid.
 fn play(start: Setup, places: &[u8]) -> Result<Setup, Refusal>
@@ -56,20 +49,13 @@ fn standing(board: &Board, side: Side) -> Result<Outcome, Refusal>
     if !can_lay(board, side) {
         return Ok(Outcome::LastMove(side.other()));
     }
-    match judge(board, side) {
-        Ok(judgement) => Ok(Outcome::Open(judgement.said)),
-        Err(e) => Err(e),
-    }
+    let judgement = judge(board, side)?;
+    Ok(Outcome::Open(judgement.said))
 }
 
 // May this side lay anywhere.
 fn can_lay(board: &Board, side: Side) -> bool
     ensures { MatchBool result (Stuck (side_of side) (grid_of board.now) → ⊥) (Stuck (side_of side) (grid_of board.now)) }
 {
-    for place in 0..board.size() {
-        if board.may(side, place) {
-            return true;
-        }
-    }
-    false
+    (0..board.size()).any(|place| board.may(side, place))
 }

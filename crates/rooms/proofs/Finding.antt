@@ -1,7 +1,7 @@
 -- The rooms found so far, square after square.
-use Rattle.std.proofs.Common.{◌≡◌, ℕ, ◌+◌, ◌<◌, ◌≤◌, Bool, true, false, List, [], ◌∷◌, ◌++◌, map, length, get_or, take, set, replicate, sym, ap, ◌∙◌, subst, ⊎_elim, arith}
+use Rattle.std.proofs.Common.{◌≡◌, ℕ, ◌+◌, ◌<◌, ◌≤◌, Bool, true, false, List, [], ◌∷◌, ◌++◌, map, length, get_or, replicate, sym, ap, ◌∙◌, subst, ⊎_elim, arith}
 use Rattle.std.specs.List.{ContainsAt as Has, AllByRecursion as Every}
-use Rattle.std.proofs.lemmas.List.{get_or-replicate, get_or_past, length_push, length-replicate, length-map, length-take, length-take-le, take_more_set, map_push, get_or-map}
+use Rattle.std.proofs.lemmas.List.{get_or-replicate, get_or_past, length_push, length-replicate, length-map, map_push, get_or-map}
 use Rattle.std.proofs.ByRecursion.{all-has, All-push, All-weaker, has_append_left, has_push, has_get_or}
 use Rattle.std.proofs.lemmas.Bool.{both_ways, cases_lt, cases_order}
 use Rattle.board.specs.Grid.{Grid, pick, free, Next, free_count}
@@ -12,6 +12,7 @@ use Rattle.rooms.specs.Games.{RoomsLaw}
 use Rattle.rooms.specs.Growth.{marked, Grown, Ended}
 use Rattle.rooms.specs.Values.{squares_of, SmallRooms, FirstLarger}
 use Rattle.rooms.specs.declared.room.Room.{Room as OneRoom}
+use Rattle.rooms.proofs.Holding.{items_few}
 use Rattle.rooms.proofs.Lists.{rise_push}
 use Rattle.rooms.proofs.Reach.{walk_trans, walk_back, walk_keeps, many_room, first_least}
 use Rattle.rooms.proofs.Beside.{rooms_law}
@@ -179,25 +180,21 @@ sofar_done b p seen rs wide x all =
 -- a room of the program has at most 16 squares
 pub squares_few : (r : OneRoom) → length (squares_of r) ≤ 16
 unfolding squares_of
-squares_few r = let k = length-take r.len r.squares in let l = r.few in omega arith
+squares_few r = items_few r.squares
 
--- there is a place for one room more, since each has two marks
-pub room_left :
-    (b : Grid) (p : ℕ) (seen : List Bool) (rooms : List OneRoom) (len : ℕ) (qs : List ℕ) → Sofar b p seen (map squares_of (take len rooms) ++ qs ∷ []) →
-    length seen ≡ 256 → len ≤ length rooms → len < 128
-room_left b p seen rooms len qs x long fits_in =
-    let rs = map squares_of (take len rooms) in
-    let k = length_push rs qs in
-    let l = length-map (take len rooms) squares_of ∙ length-take-le len rooms fits_in in
+-- a room of the program is found, and there is a place for it, since each has two marks
+pub room_added :
+    (b : Grid) (p : ℕ) (old : List Bool) (rooms : List OneRoom) → Sofar b p old (map squares_of rooms) → free b p ≡ true → marked old p ≡ false →
+    (seen : List Bool) (r : OneRoom) → Ended b p old seen (squares_of r) → 2 ≤ length (squares_of r) → length seen ≡ 256 →
+    Sofar b (p + 1) seen (map squares_of (rooms ++ r ∷ [])) × (length rooms < 128)
+room_added b p old rooms x start fresh seen r e two long =
+    let rs = map squares_of rooms in
+    let y = sofar_room b p old rs x start fresh seen (squares_of r) e two (squares_few r) in
+    let k = length_push rs (squares_of r) in
+    let l = length-map rooms squares_of in
     let m = few_marks seen in
-    let n = x.counted in
-    omega arith
-
--- it is written behind the others
-pub room_written :
-    (rooms : List OneRoom) (len : ℕ) (r : OneRoom) → len < length rooms →
-    map squares_of (take len rooms) ++ squares_of r ∷ [] ≡ map squares_of (take (len + 1) (set rooms len r))
-room_written rooms len r less = sym (ap (map squares_of) (take_more_set rooms len r less) ∙ map_push squares_of (take len rooms) r)
+    let n = y.counted in
+    (subst (Sofar b (p + 1) seen) (sym (map_push squares_of rooms r)) y, omega arith)
 
 -- a slice of all rooms: how many they are, and one of them
 pub slice_long : (slice : List OneRoom) (rs : List (List ℕ)) → map squares_of slice ≡ rs → length slice ≡ length rs

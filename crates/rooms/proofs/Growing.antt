@@ -1,7 +1,7 @@
 -- A walk goes on: a visit to a square's neighbours, way after way.
 use Rattle.std.proofs.Common.{◌≡◌, ℕ, zero, suc, ◌+◌, ◌<◌, ◌≤◌, Bool, true, false, List, [], ◌∷◌, ◌++◌, length, get_or, take, set, Some, None, sym, refl, ap, ◌∙◌, subst, inl, inr, ⊎_elim, arith}
 use Rattle.std.specs.List.{ContainsAt as Has, AllByRecursion as Every}
-use Rattle.std.proofs.lemmas.List.{get_or-set_same, get_or-set_other, get_or_append_left, length_push, take_more, take_more_set}
+use Rattle.std.proofs.lemmas.List.{get_or-set_same, get_or-set_other, get_or_append_left, length_push, take_more}
 use Rattle.std.proofs.ByRecursion.{all-has, All-push, All-weaker, has_append_left, has_push, has_get_or}
 use Rattle.std.proofs.lemmas.Bool.{both_ways, cases_Bool, cases_eq}
 use Rattle.board.specs.Grid.{Grid, pick, free, Next, free_count}
@@ -77,15 +77,6 @@ grown_start b p old open-p new less = record {
 }
 
 module _ (b : Grid) (wide : 0 < b.width) (from : ℕ) where
-  pub visited_start : (seen : List Bool) (qs : List ℕ) → Visited b from [] seen seen qs qs
-  visited_start seen qs = record {
-    longer = omega arith;
-    same = λ k h. refl;
-    kept = λ q e. e;
-    settled = tt;
-    grown = λ p old x h. x;
-  }
-
   -- what was found stays found
   found_still : (qs qs' : List ℕ) → length qs ≤ length qs' → ((k : ℕ) → k < length qs → get_or qs' k 0 ≡ get_or qs k 0) → (q : ℕ) → Has qs q → Has qs' q
   found_still qs qs' longer same q h =
@@ -126,11 +117,11 @@ module _ (b : Grid) (wide : 0 < b.width) (from : ℕ) where
         walk_trans (all-has (Walk b p) qs' from now-grown.reached (found_still qs qs' x.longer x.same from h))
         (go q (toward_next (get_or all_ways i d) q near.0) near.1 stay)
 
-    visited_new_list :
+    pub visited_new :
         (q : ℕ) → Neighbour b from (get_or all_ways i d) (Some q) → marked seen' q ≡ false → q < length seen' →
         Visited b from (take (i + 1) all_ways) seen (set seen' q true) qs (qs' ++ q ∷ [])
     unfolding Neighbour
-    visited_new_list q near new below = record {
+    visited_new q near new below = record {
       longer = let k = length_push qs' q in let l = x.longer in omega arith;
       same = λ k h. get_or_append_left qs' (q ∷ []) 0 k (let l = x.longer in omega arith) ∙ x.same k h;
       kept = λ r e. mark_keeps seen' q r below (x.kept r e);
@@ -158,11 +149,3 @@ module _ (b : Grid) (wide : 0 < b.width) (from : ℕ) where
               apart_push qs' q now-grown.apart (λ k. both_ways (marked seen' q) new (all-has (λ r. marked seen' r ≡ true) qs' q now-grown.shown k));
           reached = All-push (Walk b p) qs' q now-grown.reached (reached_new q near p old g h);
         }
-
-  pub visited_new :
-      (i : ℕ) (d : Way) → i < 4 → (seen seen' : List Bool) (qs squares : List ℕ) (n : ℕ) → Visited b from (take i all_ways) seen seen' qs (take n squares) →
-      (q : ℕ) → Neighbour b from (get_or all_ways i d) (Some q) → marked seen' q ≡ false → q < length seen' → n < length squares →
-      Visited b from (take (i + 1) all_ways) seen (set seen' q true) qs (take (n + 1) (set squares n q))
-  visited_new i d less seen seen' qs squares n x q near new below place =
-      subst (Visited b from (take (i + 1) all_ways) seen (set seen' q true) qs) (sym (take_more_set squares n q place))
-      (visited_new_list i d less seen seen' qs (take n squares) x q near new below)

@@ -1,4 +1,5 @@
 -- Lemmas.
+pub mod Holding
 pub mod Lists
 pub mod Reach
 pub mod Through

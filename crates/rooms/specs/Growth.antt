@@ -1,5 +1,5 @@
 -- How a walk goes on: the squares found so far, and the marks on the squares that were seen.
-use Rattle.std.specs.Prelude.{◌≡◌, ℕ, ◌+◌, ◌<◌, ◌≤◌, Bool, true, false, ◌⊎◌, List, [], ◌∷◌, length, take, Some, None, Option, slice_index, slice_index_or}
+use Rattle.std.specs.Prelude.{◌≡◌, ℕ, ◌+◌, ◌<◌, ◌≤◌, Bool, true, false, ◌⊎◌, List, [], ◌∷◌, length, Some, None, Option, slice_index, slice_index_or}
 use Rattle.std.specs.List.{ContainsAt as Has, AllByRecursion as Every}
 use Rattle.board.specs.Grid.{Grid, free, Next, free_count}
 use Rattle.board.specs.Ways.{Toward}
@@ -36,11 +36,10 @@ pub record Visited (b : Grid) (from : ℕ) (ways : List Way) (seen seen' : List 
 abbrev pub all_ways : List Way
 all_ways = Up ∷ Left ∷ Right ∷ Down ∷ []
 
--- a visit to a square, when the first len of the squares were found: now the first n are; or there is no place left, and more than 16 are reached
-unfoldable pub Visit : Grid → ℕ → ℕ → List Bool → List Bool → List ℕ → List ℕ → Option ℕ → Type 0
-Visit b from len seen seen' squares squares' None =
-    (p : ℕ) (old : List Bool) → Grown b p old seen (take len squares) → Has (take len squares) from → Many 16 b p
-Visit b from len seen seen' squares squares' (Some n) = Visited b from all_ways seen seen' (take len squares) (take n squares') × (n ≤ 16)
+-- a visit to a square, when qs were found: now qs' are; or there is no place left, and more than 16 are reached
+unfoldable pub Visit : Grid → ℕ → List Bool → List Bool → List ℕ → List ℕ → Option (Unit {0}) → Type 0
+Visit b from seen seen' qs qs' None = (p : ℕ) (old : List Bool) → Grown b p old seen qs → Has qs from → Many 16 b p
+Visit b from seen seen' qs qs' (Some done) = Visited b from all_ways seen seen' qs qs'
 
 -- the walk from p is at its end: qs, in rising order, are all that was found, and their free neighbours are marked
 pub record Ended (b : Grid) (p : ℕ) (old seen : List Bool) (qs : List ℕ) : Type 0 where

@@ -1,4 +1,5 @@
 -- The definitions that the contracts of this crate speak of.
+pub mod Few
 pub mod Walks
 pub mod Rooms
 pub mod Games

@@ -1,11 +1,12 @@
 -- What the program's values stand for, and what is answered of a board's rooms.
-use Rattle.std.specs.Prelude.{◌≡◌, ℕ, ◌<◌, ◌≤◌, Bool, ◌⊎◌, ◌↔◌, List, [], map, length, take, Some, None, Ok, Err, Option, Result, slice_index_or}
+use Rattle.std.specs.Prelude.{◌≡◌, ℕ, ◌<◌, ◌≤◌, Bool, ◌⊎◌, ◌↔◌, List, [], map, length, Some, None, Ok, Err, Option, Result, slice_index_or}
 use Rattle.std.specs.List.{AllByRecursion as Every}
 use Rattle.games.specs.Play.{First}
 use Rattle.board.specs.Grid.{Grid, Side}
 use Rattle.board.specs.Rules.{Wins}
 use Rattle.board.specs.declared.refusal.Refusal.{Refusal}
 use Rattle.board.specs.declared.refusal.Refusal.TheVariants as refusal
+use Rattle.rooms.specs.Few.{items_of}
 use Rattle.rooms.specs.Walks.{first}
 use Rattle.rooms.specs.Rooms.{Rooms, Many, Larger}
 use Rattle.rooms.specs.Games.{games_of}
@@ -15,11 +16,11 @@ use Rattle.rooms.specs.declared.list.Rooms.{Rooms as AllRooms}
 
 -- the squares of a room
 unfoldable pub squares_of : OneRoom → List ℕ
-squares_of r = take r.len r.squares
+squares_of r = items_of r.squares
 
 -- the rooms, each by its squares
 unfoldable pub rooms_of : AllRooms → List (List ℕ)
-rooms_of x = map squares_of (take x.len x.rooms)
+rooms_of x = map squares_of (items_of x.rooms)
 
 -- all that is reached from p, found by a walk; or it is more than 16 squares
 unfoldable pub Walked : Grid → ℕ → List Bool → List Bool → Option OneRoom → Type 0

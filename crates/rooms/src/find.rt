@@ -1,20 +1,20 @@
 // Finding the rooms of a board by walking from square to square.
-ghost use Rattle.std.specs.Prelude.{◌≡◌, ◌≤◌, true, false};
+ghost use Rattle.std.specs.Prelude.{◌≡◌, true, false};
 ghost use Rattle.board.specs.Grid.{free};
 ghost use Rattle.board.specs.Values.{grid_of};
+ghost use Rattle.rooms.specs.Few.{items_of};
 ghost use Rattle.rooms.specs.Growth.{Visit, marked};
 ghost use Rattle.rooms.specs.Values.{Walked, Found, Judged};
 
+use crate::few::Few;
 use crate::list::Rooms;
-use crate::room::Room;
+use crate::room::{LARGEST, Room};
 use board::board::Board;
 use board::refusal::Refusal;
 use board::ways::WAYS;
 
-// The squares that a room has at least and at most, and the rooms that a board has at most that is judged.
+// The squares that a room has at least, and the rooms that a board has at most that is judged.
 const FEWEST: usize = 2;
-
-const LARGEST: usize = 16;
 
 const MOST: usize = 32;
 
@@ -23,13 +23,10 @@ fn visit(
     board: &Board,
     from: u16,
     seen: &mut [bool; 256],
-    squares: &mut [u16; 16],
-    len: usize,
-) -> Option<usize>
-    requires { len ≤ 16 }
-    ensures { Visit (grid_of board.now) from len seen.old seen.new squares.old squares.new result }
+    squares: &mut Few<u16, LARGEST>,
+) -> Option<()>
+    ensures { Visit (grid_of board.now) from seen.old seen.new (items_of squares.old) (items_of squares.new) result }
 {
-    let mut n = len;
     for way in WAYS {
         let Some(q) = board.neighbour(from, way) else {
             continue;
@@ -37,14 +34,10 @@ fn visit(
         if seen[q as usize] {
             continue;
         }
-        if n == LARGEST {
-            return None;
-        }
+        squares.push(q)?;
         seen[q as usize] = true;
-        squares[n] = q;
-        n += 1;
     }
-    Some(n)
+    Some(())
 }
 
 // Walks from a free square that is not marked over free neighbours, and marks them: all that is reached, or None where that is more than 16 squares.
@@ -53,31 +46,26 @@ fn walk(board: &Board, first: u16, seen: &mut [bool; 256]) -> Option<Room>
     requires fresh { marked seen.old first ≡ false }
     ensures { Walked (grid_of board.now) first seen.old seen.new result }
 {
-    let mut squares = [first; 16];
-    let mut len = 1;
-    let mut at = 0;
+    let mut squares = Few::new(first);
+    squares.push(first)?;
     seen[first as usize] = true;
-    while at < len {
-        let Some(n) = visit(board, squares[at], seen, &mut squares, len) else {
-            return None;
-        };
-        len = n;
+    let mut at = 0;
+    // the list grows as its squares are visited
+    while let Some(q) = squares.as_slice().get(at) {
+        visit(board, *q, seen, &mut squares)?;
         at += 1;
     }
-    squares[..len].sort_unstable();
-    Some(Room { squares, len })
+    squares.sort();
+    Some(Room { squares })
 }
 
 // All rooms of a board, in the order of their first squares, however many they are; or the refusal of the first that has more than 16 squares.
 pub fn all_rooms(board: &Board) -> Result<Rooms, Refusal>
     ensures { Found (grid_of board.now) result }
 {
-    let none = Room {
-        squares: [0; 16],
-        len: 0,
-    };
-    let mut rooms = [none; 128];
-    let mut len = 0;
+    let mut rooms = Few::new(Room {
+        squares: Few::new(0),
+    });
     let mut seen = [false; 256];
     for p in 0..board.size() {
         if !board.is_free(p) {
@@ -92,20 +80,16 @@ pub fn all_rooms(board: &Board) -> Result<Rooms, Refusal>
         if room.squares().len() < FEWEST {
             continue;
         }
-        rooms[len] = room;
-        len += 1;
+        rooms.push(room).unwrap();
     }
-    Ok(Rooms { rooms, len })
+    Ok(Rooms { rooms })
 }
 
 // The rooms of a board that is to be judged: at most 32, of at most 16 squares each. A room that is too large is refused before too many rooms.
 pub fn judged_rooms(board: &Board) -> Result<Rooms, Refusal>
     ensures { Judged (grid_of board.now) result }
 {
-    let rooms = match all_rooms(board) {
-        Ok(rooms) => rooms,
-        Err(e) => return Err(e),
-    };
+    let rooms = all_rooms(board)?;
     if let Some(room) = rooms.as_slice().get(MOST) {
         return Err(Refusal::Rooms(room.first()));
     }

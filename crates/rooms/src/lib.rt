@@ -1,6 +1,7 @@
 // The rooms of a board: finding them, and what they are to the board.
 #![tactic(auto)]
 
+pub mod few;
 pub mod find;
 pub mod list;
 pub mod read;

@@ -11,17 +11,14 @@ impl Room {
     pub fn squares(&self) -> &[u16]
         ensures { result.now ≡ squares_of self.now }
     {
-        &self.squares[..self.len]
+        self.squares.as_slice()
     }
 
     // The room's first square.
     pub fn first(&self) -> u16
         ensures { result ≡ first (squares_of self.now) }
     {
-        if self.len == 0 {
-            return 0;
-        }
-        self.squares[0]
+        self.squares().first().copied().unwrap_or(0)
     }
 }
 
@@ -37,6 +34,6 @@ impl Rooms {
     pub fn as_slice(&self) -> &[Room]
         ensures { map squares_of result.now ≡ rooms_of self.now }
     {
-        &self.rooms[..self.len]
+        self.rooms.as_slice()
     }
 }

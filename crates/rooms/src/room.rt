@@ -1,9 +1,10 @@
 // A room as the program holds it: its squares in rising order, by value.
-ghost use Rattle.std.specs.Prelude.{◌≤◌};
+use crate::few::Few;
+
+// The squares that a room has at most.
+pub(crate) const LARGEST: usize = 16;
 
 #[derive(Clone, Copy)]
 pub struct Room {
-    pub(crate) squares: [u16; 16],
-    pub(crate) len: usize,
-    ghost few: { len ≤ 16 },
+    pub(crate) squares: Few<u16, LARGEST>,
 }

@@ -13,24 +13,15 @@ fn found(file: &[u8]) -> Result<Rooms, Refusal> {
 
 // Why the board that a file holds is refused.
 fn refused(file: &[u8]) -> Option<Refusal> {
-    match found(file) {
-        Ok(_) => None,
-        Err(e) => Some(e),
-    }
+    found(file).err()
 }
 
 // The number of rooms, and the first squares of the second and the last.
 fn summary(file: &[u8]) -> Result<(usize, u16, u16), Refusal> {
     let rooms = found(file)?;
     let held = rooms.as_slice();
-    let second = match held.get(1) {
-        Some(room) => room.first(),
-        None => 0,
-    };
-    let last = match held.last() {
-        Some(room) => room.first(),
-        None => 0,
-    };
+    let second = held.get(1).map_or(0, |room| room.first());
+    let last = held.last().map_or(0, |room| room.first());
     Ok((held.len(), second, last))
 }
 

@@ -13,6 +13,7 @@ use board::side::Side;
 pub fn first_win(board: &Board, side: Side) -> Option<u16>
     ensures { Says (side_of side) (grid_of board.now) (answer_of result) }
 {
+    // a loop, since a closure that calls back into the search would need clauses of its own
     for place in 0..board.size() {
         let Some(next) = board.lay(side, place) else {
             continue;

@@ -1,5 +1,6 @@
 -- The judge's whole answer from its parts, and that no other fits.
-use Rattle.std.proofs.Common.{◌≡◌, ℕ, ◌<◌, true, List, Ok, Err, Result, sym, refl, ap, ◌∙◌, subst, inl, inr, ⊎_elim, arith}
+use Rattle.std.proofs.Common.{IsErrAnd, ◌≡◌, ℕ, ◌<◌, true, List, Ok, Err, Result, sym, refl, ap, ◌∙◌, subst, inl, inr, ⊎_elim, arith}
+use Rattle.std.proofs.lemmas.Result.{err_from_is_err_and}
 use Rattle.std.proofs.lemmas.Bool.{both_ways}
 use Rattle.board.specs.Grid.{Grid, Side, free_count}
 use Rattle.board.specs.Reading.{Read, refused, holds, board_read}
@@ -23,18 +24,18 @@ pub is_judged : (s : Side) (b : Grid) (x : Judgement) → RoomsJudged b (Ok x.ro
 unfolding Judged
 is_judged s b x rooms right = (rooms, right)
 
-pub rooms_refused : (s : Side) (b : Grid) (e : Refusal) → RoomsJudged b (Err e) → Judged s b (Err e)
+pub rooms_refused : (s : Side) (b : Grid) (e : Refusal) (r : Result Judgement Refusal) → RoomsJudged b (Err e) → IsErrAnd r (λ f. f ≡ e) → Judged s b r
 unfolding Judged
-rooms_refused s b e h = inl h
+rooms_refused s b e r h is = let f = err_from_is_err_and r is in subst (Judged s b) (sym (f.1 ∙ ap Err f.2)) (inl h)
 
 pub count_refused : (s : Side) (b : Grid) (rs : Rooms) → RoomsJudged b (Ok rs) → 20 < free_count b.cells → Judged s b (Err Count)
 unfolding Judged
 count_refused s b rs h many = inr (rs, h, many, refl)
 
 -- a file that is refused, and one that is read
-pub not_read : (bs : List ℕ) (e : Refusal) → refused e ≡ board_read bs → JudgedFile bs (Err e)
+pub not_read : (bs : List ℕ) (e : Refusal) (r : Result Judgement Refusal) → refused e ≡ board_read bs → IsErrAnd r (λ f. f ≡ e) → JudgedFile bs r
 unfolding JudgedFile
-not_read bs e h = subst (λ x. AfterRead x (Err e)) h refl
+not_read bs e r h is = let f = err_from_is_err_and r is in subst (λ x. AfterRead x r) h (f.1 ∙ ap Err f.2)
 
 pub is_read : (bs : List ℕ) (s : Side) (b : Grid) (r : Result Judgement Refusal) → holds s b ≡ board_read bs → Judged s b r → JudgedFile bs r
 unfolding JudgedFile

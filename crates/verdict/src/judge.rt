@@ -25,17 +25,11 @@ pub struct Judgement {
 pub fn judge(board: &Board, side: Side) -> Result<Judgement, Refusal>
     ensures { Judged (side_of side) (grid_of board.now) result }
 {
-    let rooms = match judged_rooms(board) {
-        Ok(rooms) => rooms,
-        Err(e) => return Err(e),
-    };
+    let rooms = judged_rooms(board)?;
     if board.count_free() > MOST_FREE {
         return Err(Refusal::Count);
     }
-    let verdict = match first_win(board, side) {
-        Some(place) => Verdict::WinsAt(place),
-        None => Verdict::Lost,
-    };
+    let verdict = Verdict::from(first_win(board, side));
     Ok(Judgement {
         rooms,
         said: Said { side, verdict },
@@ -46,16 +40,12 @@ pub fn judge(board: &Board, side: Side) -> Result<Judgement, Refusal>
 pub fn judge_file(bytes: &[u8]) -> Result<Judgement, Refusal>
     ensures { JudgedFile bytes.now result }
 {
-    match read_board(bytes) {
-        Ok(setup) => judge(&setup.board, setup.side),
-        Err(e) => Err(e),
-    }
+    let setup = read_board(bytes)?;
+    judge(&setup.board, setup.side)
 }
 
 // Nothing else fits: two answers that meet the contract of judge, or of judge_file, tell the same.
-pub fn judgement_stands() -> u8
+pub fn judgement_stands()
     ensures board { OneJudgement }
     ensures file { OneFileJudgement }
-{
-    0
-}
+{}

@@ -1,5 +1,7 @@
 // A verdict, and the lines that tell a judgement.
-ghost use Rattle.std.specs.Prelude.{Some};
+ghost use Rattle.std.specs.Prelude.{◌≡◌, Some};
+ghost use Rattle.search.specs.Answers.{answer_of as searched};
+ghost use Rattle.verdict.specs.Judging.{answer_of};
 ghost use Rattle.verdict.specs.Lines.{verdict_text, rooms_text, room_text};
 
 use board::side::Side;
@@ -10,6 +12,18 @@ use std::fmt;
 pub enum Verdict {
     WinsAt(u16),
     Lost,
+}
+
+// What the search found, as a verdict.
+impl From<Option<u16>> for Verdict {
+    ghost from_gives = { λ found v. answer_of v ≡ searched found };
+
+    fn from(found: Option<u16>) -> Verdict {
+        match found {
+            Some(place) => Verdict::WinsAt(place),
+            None => Verdict::Lost,
+        }
+    }
 }
 
 // A verdict and the side that it is about.

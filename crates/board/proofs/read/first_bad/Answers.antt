@@ -1,12 +1,11 @@
-use Rattle.std.proofs.Common.{sym, arith}
-use Rattle.board.proofs.Squares.{bad_here, bad_further, bad_nowhere}
+use Rattle.std.proofs.Common.{not, rules, tests}
+use Rattle.std.proofs.lemmas.Iterator.{YieldsList-from_slice}
+use Rattle.std.proofs.lemmas.Iterator.Search.{position_from_yields_List}
+use Rattle.board.specs.Reading.{is_square_byte}
+use Rattle.board.proofs.Squares.{bad_found}
 use Rattle.board.proofs.read.first_bad.Goals as goal
 
-pub returns-then-not-is_square : goal.returns-then-not-is_square
-returns-then-not-is_square c = (bad_here c.args.squares.now _ c.loop-i.invariant c.loop-i-test.true (sym c.if-not-is_square.ensures), c.loop-i-test.true)
-
-pub loop-i-preserved : goal.loop-i-preserved
-loop-i-preserved c = bad_further c.args.squares.now _ c.loop-i.invariant c.loop-i-test.true (sym c.if-not-is_square.ensures)
-
 pub returns : goal.returns
-returns c = bad_nowhere c.args.squares.now _ c.loop-i.invariant (omega arith)
+returns c =
+    bad_found c.args.squares.now _
+    (position_from_yields_List (λ x. not (is_square_byte x)) _ _ _ c.position.ensures.ran (YieldsList-from_slice c.args.squares.now cc) (λ x b q k. search (rules, tests)))

@@ -1,20 +1,13 @@
-use Rattle.std.proofs.Common.{sym, ◌∙◌, arith}
-use Rattle.std.proofs.lemmas.Bool.{ne_eqb, eq-eqb}
-use Rattle.board.proofs.Checks.{head_refused, length_refused, squares_told}
+use Rattle.std.proofs.Common.{◌-◌, ◌==◌, length, ap, ◌∙◌}
+use Rattle.board.specs.Reading.{file_read}
+use Rattle.board.proofs.Checks.{head_refused}
 use Rattle.board.proofs.Squares.{asked_is}
 use Rattle.board.proofs.read.read_board.Goals as goal
 
-pub returns-in-Err : goal.returns-in-Err
-returns-in-Err c = head_refused _ c.args.bytes.now _ c.in-Err.ensures
-
-pub returns-then-bytes-head : goal.returns-then-bytes-head
-returns-then-bytes-head c =
-    let head = c.in-Ok.ensures in
-    let size = asked_is c.args.bytes.now _ _ head.width head.height in
-    length_refused _ c.args.bytes.now head.passed (ne_eqb _ _ (λ same. c.if-bytes-head.true (same ∙ sym size)))
+pub returns-in_err-head : goal.returns-in_err-head
+returns-in_err-head c = head_refused _ c.args.bytes.now _ _ c.in_err-head.ensures c.from_residual.ensures.1
 
 pub returns : goal.returns
 returns c =
-    let head = c.in-Ok.ensures in
-    let size = asked_is c.args.bytes.now _ _ head.width head.height in
-    squares_told _ c.args.bytes.now head.passed (eq-eqb _ _ (omega arith)) c.read_squares.result c.read_squares.ensures
+    let head = c.in_ok-head.ensures in
+    c.read_rest.ensures ∙ ap (λ n. file_read (length c.args.bytes.now - 3 == n) c.args.bytes.now) (c.size.ensures ∙ asked_is c.args.bytes.now _ _ head.width head.height)

@@ -17,7 +17,7 @@ unfolding grid_of
 returns c =
     let pre = c.requires.headed in
     record {
-      passed = all_squares c.args.bytes.now c.args.head.width c.args.head.height pre.width pre.height c.in_default.ensures;
+      passed = all_squares c.args.bytes.now _ _ pre.width pre.height _ c.size.ensures c.in_default.ensures;
       side = pre.side;
-      board = grid_read c.args.bytes.now c.args.head.width c.args.head.height pre.width pre.height c.cells.result c.requires.bytes_in_bounds c.cells.ensures;
+      board = grid_read c.args.bytes.now _ _ pre.width pre.height _ c.size.ensures c.cells.result c.requires.bytes_in_bounds c.cells.ensures;
     }

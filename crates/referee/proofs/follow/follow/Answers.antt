@@ -1,13 +1,15 @@
-use Rattle.std.proofs.Common.{refl}
+use Rattle.std.proofs.Common.{ap, ◌∙◌, Err}
+use Rattle.std.proofs.lemmas.Result.{err_from_is_err_and}
 use Rattle.referee.proofs.Standing.{not_read, is_read}
 use Rattle.referee.proofs.follow.follow.Goals as goal
 
-pub returns-in-Err : goal.returns-in-Err
-returns-in-Err c = not_read c.args.bytes.now c.in-Err.e c.in-Err.ensures
+pub returns-in_err-start : goal.returns-in_err-start
+returns-in_err-start c = not_read c.args.bytes.now _ _ c.in_err-start.ensures c.from_residual.ensures.1
 
-pub returns-in-Ok-play : goal.returns-in-Ok-play
-returns-in-Ok-play c =
-    is_read c.args.bytes.now _ _ _ _ c.standing.result c.in-Ok.ensures c.places.ensures c.in-Ok-play.ensures c.standing.ensures
+pub returns-in_err-end : goal.returns-in_err-end
+returns-in_err-end c =
+    let f = err_from_is_err_and c.from_residual-in_err-end.result c.from_residual-in_err-end.ensures.1 in
+    is_read c.args.bytes.now _ _ _ _ _ c.in_ok-start.ensures c.places.ensures c.in_err-end.ensures (f.1 ∙ ap Err f.2)
 
-pub returns-in-Err-play : goal.returns-in-Err-play
-returns-in-Err-play c = is_read c.args.bytes.now _ _ _ _ _ c.in-Ok.ensures c.places.ensures c.in-Err-play.ensures refl
+pub returns : goal.returns
+returns c = is_read c.args.bytes.now _ _ _ _ c.standing.result c.in_ok-start.ensures c.places.ensures c.in_ok-end.ensures c.standing.ensures

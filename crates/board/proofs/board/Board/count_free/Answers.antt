@@ -1,18 +1,14 @@
-use Rattle.std.proofs.Common.{◌+◌, sym, ap, ◌∙◌, add-zero, arith}
-use Rattle.board.specs.Grid.{pick}
+use Rattle.std.proofs.Common.{◌∙◌, rules, tests, arith}
+use Rattle.std.proofs.lemmas.Iterator.{YieldsList-from_range}
+use Rattle.std.proofs.lemmas.Iterator.Consumers.{count_from_yields_List, YieldsList-from_filter}
+use Rattle.std.proofs.lemmas.List.Sums.{length-filter}
+use Rattle.board.specs.Grid.{free}
 use Rattle.board.specs.Values.{grid_of}
-use Rattle.board.proofs.Cells.{count_more, count_all}
+use Rattle.board.proofs.Cells.{counted}
 use Rattle.board.proofs.board.Board.count_free.Goals as goal
-use Rattle.board.proofs.board.Board.count_free.Goals.{then-is_free, else-is_free}
-
-pub loop-p-preserved : goal.loop-p-preserved
-loop-p-preserved c =
-    let n = c.loop-p.n in
-    let step = count_more (grid_of c.args.self.now).cells c.loop-p.p n c.if-is_free.n _ (omega arith) c.loop-p.invariant.1 in
-    elim c.if-is_free.branch [
-      | then-is_free w ↦ (omega (arith, w.n-is), step (w.n-is ∙ ap (λ t. n + pick t 1 0) (sym w.if-is_free.true ∙ c.is_free.ensures)))
-      | else-is_free w ↦ (omega (arith, w.n-is), step (w.n-is ∙ sym (add-zero n) ∙ ap (λ t. n + pick t 1 0) (sym w.if-is_free.false ∙ c.is_free.ensures)))
-    ]
 
 pub returns : goal.returns
-returns c = count_all (grid_of c.args.self.now).cells _ _ _ (omega arith) c.loop-p.invariant.1
+returns c =
+    let b = grid_of c.args.self.now in
+    let chain = count_from_yields_List _ _ c.count.ensures.ran (YieldsList-from_filter _ (free b) (YieldsList-from_range 0 c.size.result c.size.result (cc) (omega arith)) c.filter.ensures.closure (λ x r q k. search (rules, tests))) in
+    chain ∙ length-filter (free b) _ ∙ counted b.cells c.size.result c.size.ensures.value

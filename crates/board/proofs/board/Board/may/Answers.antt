@@ -1,10 +1,8 @@
-use Rattle.std.proofs.Common.{sym, ◌∙◌}
+use Rattle.std.proofs.Common.{rules, tests}
 use Rattle.board.specs.Values.{grid_of, side_of}
-use Rattle.board.proofs.Laying.{may_unfit, may_fit}
+use Rattle.board.proofs.Laying.{may_if_free}
 use Rattle.board.proofs.board.Board.may.Goals as goal
 
-pub returns-in-Some : goal.returns-in-Some
-returns-in-Some c = c.all_free.ensures ∙ sym (may_fit (grid_of c.args.self.now) (side_of c.args.side) c.args.place _ c.in-Some.ensures)
-
-pub returns-in-None : goal.returns-in-None
-returns-in-None c = sym (may_unfit (grid_of c.args.self.now) (side_of c.args.side) c.args.place c.in-None.ensures)
+pub returns : goal.returns
+returns c =
+    may_if_free (grid_of c.args.self.now) (side_of c.args.side) c.args.place c.covers.result _ _ c.covers.ensures c.is_some_and.ensures (λ qs k. search (rules, tests))

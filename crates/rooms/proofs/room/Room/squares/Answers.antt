@@ -1,7 +1,7 @@
-use Rattle.std.proofs.Common.{refl}
+use Rattle.std.proofs.Common.{rules}
 use Rattle.rooms.specs.Values.{squares_of}
 use Rattle.rooms.proofs.room.Room.squares.Goals as goal
 
 pub returns : goal.returns
 unfolding squares_of
-returns c = refl
+returns c = search rules
