@@ -1,12 +1,14 @@
 // Forms and play, compared on every board of three by three.
 ghost use Rattle.std.specs.Prelude.{◌≤◌};
 
-use crate::forms_of::BLANK;
 use board::read::read_board;
-use forms::table::start;
+use forms::rows::BLANK;
+use forms::table::Table;
 use rooms::find::all_rooms;
 use search::first_win;
 use std::io;
+use sums::memory::Memory;
+use sums::sum::Sums;
 use verdict::choose::choose;
 
 // The board file of three by three squares, of which these are taken.
@@ -37,20 +39,14 @@ fn is_same(rt: &HostRuntime, bytes: &[u8]) -> bool {
     let mut options = [0u16; 4096];
     let mut pairs = [0u32; 512];
     let mut positions = [0u32; 512];
-    let Some(used) = start(&mut forms, &options) else {
+    let Some(table) = Table::new(&mut forms, &mut options) else {
         return false;
     };
-    let Ok(found) = choose(
-        rt.alloc(),
-        &setup.board,
-        &rooms,
-        setup.side,
-        &mut forms,
-        &mut options,
-        &mut pairs,
-        &mut positions,
-        used,
-    ) else {
+    let mut memory = Memory {
+        sums: Sums::new(table, &mut pairs),
+        positions: &mut positions,
+    };
+    let Ok(found) = choose(rt.alloc(), &setup.board, &rooms, setup.side, &mut memory) else {
         return false;
     };
     found == first_win(&setup.board, setup.side)

@@ -1,48 +1,38 @@
 // Rooms with known numbers of forms and of positions.
-ghost use Rattle.std.specs.Prelude.{IfOk};
-ghost use Rattle.forms.specs.Links.{Table};
+ghost use Rattle.std.specs.Prelude.{OnOk};
+ghost use Rattle.forms.specs.Values.{IsTable};
 
 use board::read::read_board;
-use forms::rows::Form;
-use forms::table::start;
+use forms::rows::BLANK;
+use forms::table::Table;
 use positions::all_forms::room_forms;
 use positions::room::RoomMoves;
 use rooms::find::all_rooms;
 use std::io;
-
-pub(crate) const BLANK: Form = Form {
-    upright: 0,
-    flat: 0,
-    head: 0,
-    next: 0,
-};
 
 // How many of these sets something is known of.
 fn count_noted(sets: &[u32]) -> usize {
     sets.iter().filter(|noted| **noted > 0).count()
 }
 
-// How many forms a room has at how many positions, in a table that goes on from room to room. It answers how many forms are in use then.
+// How many forms a room has at how many positions, in a table that goes on from room to room.
 fn tell_forms(
     rt: &HostRuntime,
     what: &str,
     room: &RoomMoves,
-    forms: &mut [Form],
-    options: &mut [u16],
-    used: u16,
-) -> io::Result<u16>
-    requires table { Table forms.old options.old used }
-    ensures { IfOk result (λ n. Table forms.new options.new n) }
+    table: &mut Table,
+) -> io::Result<()>
+    requires { IsTable table.old }
+    ensures { OnOk result (IsTable table.new) }
 {
     let mut positions = [0u32; 65536];
-    let Ok(found) = room_forms(rt.alloc(), room, forms, options, &mut positions, used) else {
+    let Ok(found) = room_forms(rt.alloc(), room, table, &mut positions) else {
         return Err(io::Error::other("the table is full"));
     };
     let own = found.own;
     let count = found.all.len();
     let reached = count_noted(&positions);
-    println!(rt; "{what}: form {own}, {count} forms of {reached} positions")?;
-    Ok(found.used)
+    println!(rt; "{what}: form {own}, {count} forms of {reached} positions")
 }
 
 // The rooms of the board that a file holds, in one table.
@@ -55,12 +45,12 @@ fn tell_rooms(rt: &HostRuntime, what: &str, bytes: &[u8]) -> io::Result<()> {
     };
     let mut forms = [BLANK; 512];
     let mut options = [0u16; 16384];
-    let Some(mut used) = start(&mut forms, &options) else {
+    let Some(mut table) = Table::new(&mut forms, &mut options) else {
         return println!(rt; "{what}: no table");
     };
     for room in rooms.as_slice() {
         let moves = RoomMoves::new(&setup.board, room);
-        used = tell_forms(rt, what, &moves, &mut forms, &mut options, used)?;
+        tell_forms(rt, what, &moves, &mut table)?;
     }
     Ok(())
 }

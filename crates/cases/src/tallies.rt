@@ -1,11 +1,12 @@
 // Boards with known counts, forms and rooms that are alike.
-use crate::forms_of::BLANK;
 use board::read::read_board;
-use forms::table::start;
+use forms::rows::BLANK;
+use forms::table::Table;
 use rooms::find::all_rooms;
 use std::io;
 use sums::alike::alike;
-use sums::row::row_of_rooms;
+use sums::memory::Memory;
+use sums::sum::Sums;
 
 // The form and the count of the board that a file holds, from an empty table, and its rooms that are alike. At most 512 forms.
 fn tell_count(rt: &HostRuntime, what: &str, bytes: &[u8]) -> io::Result<()> {
@@ -19,23 +20,18 @@ fn tell_count(rt: &HostRuntime, what: &str, bytes: &[u8]) -> io::Result<()> {
     let mut options = [0u16; 16384];
     let mut pairs = [0u32; 4096];
     let mut positions = [0u32; 65536];
-    let Some(used) = start(&mut forms, &options) else {
+    let Some(table) = Table::new(&mut forms, &mut options) else {
         return println!(rt; "{what}: no table");
     };
-    let Ok(found) = row_of_rooms(
-        rt.alloc(),
-        &setup.board,
-        &rooms,
-        &mut forms,
-        &mut options,
-        &mut pairs,
-        &mut positions,
-        used,
-    ) else {
+    let mut memory = Memory {
+        sums: Sums::new(table, &mut pairs),
+        positions: &mut positions,
+    };
+    let Ok(found) = memory.row_of_rooms(rt.alloc(), &setup.board, &rooms) else {
         return println!(rt; "{what}: no answer");
     };
     let sum = found.sum;
-    let count = found.used;
+    let count = memory.sums.table.used;
     println!(rt; "{what}: form {sum}, count {count}")?;
     let owns = found.owns.as_slice();
     for i in 0..owns.len() {

@@ -2,6 +2,7 @@
 ghost use Rattle.std.specs.Prelude.{◌≡◌, ◌<◌};
 ghost use Rattle.board.specs.Values.{side_of};
 ghost use Rattle.forms.specs.Growth.{HasRoom};
+ghost use Rattle.forms.specs.Values.{IsTable};
 ghost use Rattle.sums.specs.Steps.{RowKnown};
 ghost use Rattle.sums.specs.Values.{AreRight, SameSums, SumOf, StepOf, RowFor};
 
@@ -20,7 +21,18 @@ pub struct Sums<'a> {
     pub pairs: &'a mut [u32],
 }
 
-impl Sums<'_> {
+impl<'a> Sums<'a> {
+    // A table, with nothing known of any pair.
+    pub fn new(table: Table<'a>, pairs: &'a mut [u32]) -> Sums<'a>
+        requires { IsTable table }
+        ensures right { AreRight result }
+        ensures table { result.table ≡ table.entry }
+        ensures pairs { result.pairs.ghost_name ≡ pairs.entry.ghost_name }
+    {
+        pairs.fill(0);
+        Sums { table, pairs }
+    }
+
     // Begins the table anew, with form 0, the empty game, alone, and forgets all pairs.
     pub fn clear(&mut self)
         requires { HasRoom self.old.table.forms.now self.old.table.options.now }

@@ -1,2 +1,0 @@
--- Lemmas.
-pub mod Zeros
