@@ -16,12 +16,7 @@ fn count_noted(sets: &[u32]) -> usize {
 }
 
 // How many forms a room has at how many positions, in a table that goes on from room to room.
-fn tell_forms(
-    rt: &HostRuntime,
-    what: &str,
-    room: &RoomMoves,
-    table: &mut Table,
-) -> io::Result<()>
+fn tell_forms(rt: &HostRuntime, what: &str, room: &RoomMoves, table: &mut Table) -> io::Result<()>
     requires { IsTable table.old }
     ensures { OnOk result (IsTable table.new) }
 {
