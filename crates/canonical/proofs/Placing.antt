@@ -11,7 +11,7 @@ use Rattle.games.proofs.Sides.{equal_refl, equal_sym, equal_trans}
 use Rattle.games.proofs.Forms.{matched}
 use Rattle.games.proofs.Counting.{not_wide}
 use Rattle.forms.specs.declared.rows.Form.{Form}
-use Rattle.forms.specs.declared.table.Table.{Table as Lent}
+use Rattle.forms.specs.Held.{Lent}
 use Rattle.forms.specs.Rows.{Rising, row_of, row_for}
 use Rattle.forms.specs.Meaning.{listed, meaning, given}
 use Rattle.forms.specs.Soundness.{Sound, Known}

@@ -5,7 +5,7 @@ use Rattle.games.specs.Order.{Equal}
 use Rattle.games.specs.Canonical.{Canonical}
 use Rattle.games.specs.Count.{Wide}
 use Rattle.forms.specs.declared.rows.Form.{Form}
-use Rattle.forms.specs.declared.table.Table.{Table as Lent}
+use Rattle.forms.specs.Held.{Lent}
 use Rattle.forms.specs.Meaning.{meaning}
 use Rattle.forms.specs.Links.{Table}
 use Rattle.forms.specs.Growth.{Kept}

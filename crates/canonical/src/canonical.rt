@@ -1,7 +1,7 @@
 // The canonical form of a game that is given by two rows of forms, found in the table or added to it.
 ghost use Rattle.std.specs.Prelude.{◌≡◌, IfOk};
 ghost use Rattle.board.specs.Values.{side_of};
-ghost use Rattle.forms.specs.Values.{IsSound, IsTable, SameRows, in_use, game_by, game_from};
+ghost use Rattle.forms.specs.Values.{IsTable, Stays, in_use, game_by, game_from};
 ghost use Rattle.canonical.specs.Compares.{BothKnown};
 ghost use Rattle.canonical.specs.Reducing.{Reduced, Reduction};
 ghost use Rattle.canonical.specs.Answers.{Outcome};
@@ -43,13 +43,12 @@ impl<T: Drop> From<AllocFailed<T>> for Refusal {
 
 // The canonical form of the game that two rows of forms give.
 pub fn canonical(heap: Global, table: &mut Table, rows: Rows) -> Result<u16, Refusal>
-    requires table { IsTable table.old }
-    requires rows { BothKnown (in_use table.old) rows.upright.now rows.flat.now }
+    requires { BothKnown (in_use table.old) rows.upright.now rows.flat.now }
     ensures answer { Outcome table.old table.new (game_from table.old rows.entry) result }
-    ensures same { SameRows table.old table.new }
+    ensures stays { Stays table.old table.new }
 {
-    let upright = reduce(heap, table.in_use(), Side::Upright, rows)?;
-    let flat = reduce(heap, table.in_use(), Side::Flat, rows)?;
+    let upright = reduce(heap, &table.in_use(), Side::Upright, rows)?;
+    let flat = reduce(heap, &table.in_use(), Side::Flat, rows)?;
     let reduced = Rows {
         upright: upright.as_slice(),
         flat: flat.as_slice(),
@@ -58,10 +57,9 @@ pub fn canonical(heap: Global, table: &mut Table, rows: Rows) -> Result<u16, Ref
 }
 
 // The options of a side in the canonical form of that game.
-fn reduce(heap: Global, forms: Forms, side: Side, rows: Rows) -> Result<Vec<u16>, AllocError>
-    requires sound { IsSound forms }
-    requires rows { BothKnown forms.forms.now rows.upright.now rows.flat.now }
-    ensures { IfOk result (λ v. Reduced forms.entry.forms.now forms.entry.options.now (side_of side) (game_by forms.entry rows.entry) v.items) }
+fn reduce(heap: Global, forms: &Forms, side: Side, rows: Rows) -> Result<Vec<u16>, AllocError>
+    requires { BothKnown forms.now.forms rows.upright.now rows.flat.now }
+    ensures { IfOk result (λ v. Reduced forms.now.forms forms.now.options (side_of side) (game_by forms.now rows.entry) v.items) }
 {
     let firm = bypass(heap, forms, side, rows)?;
     thin(heap, forms, side, firm.as_slice())
@@ -72,7 +70,7 @@ fn place(table: &mut Table, rows: Rows) -> Result<u16, Refusal>
     requires table { IsTable table.old }
     requires reduced { Reduction (in_use table.old) table.old.options.now rows.upright.now rows.flat.now }
     ensures answer { Outcome table.old table.new (game_from table.old rows.entry) result }
-    ensures same { SameRows table.old table.new }
+    ensures stays { Stays table.old table.new }
 {
     if rows.upright.len() > 16 || rows.flat.len() > 16 {
         return Err(Refusal::Wide);

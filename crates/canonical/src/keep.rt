@@ -2,7 +2,7 @@
 ghost use Rattle.std.specs.Prelude.{◌<◌, length, IfOk, OnOk};
 ghost use Rattle.games.specs.Order.{NotWorse};
 ghost use Rattle.board.specs.Values.{side_of};
-ghost use Rattle.forms.specs.Values.{IsSound, game_of, game_by};
+ghost use Rattle.forms.specs.Values.{game_of, game_by};
 ghost use Rattle.canonical.specs.Compares.{BothKnown};
 ghost use Rattle.canonical.specs.Reducing.{Fit, Passed, Bypassed};
 
@@ -13,10 +13,9 @@ use forms::rows::{Forms, Rows};
 use std::alloc::{AllocError, Global};
 
 // The forms that serve for the options of a side in the game that two rows give, none of them reversible in it.
-pub fn bypass(heap: Global, forms: Forms, side: Side, rows: Rows) -> Result<Vec<u16>, AllocError>
-    requires sound { IsSound forms }
-    requires rows { BothKnown forms.forms.now rows.upright.now rows.flat.now }
-    ensures { IfOk result (λ v. Bypassed forms.entry.forms.now forms.entry.options.now (side_of side) (game_by forms.entry rows.entry) v.items) }
+pub fn bypass(heap: Global, forms: &Forms, side: Side, rows: Rows) -> Result<Vec<u16>, AllocError>
+    requires rows { BothKnown forms.now.forms rows.upright.now rows.flat.now }
+    ensures { IfOk result (λ v. Bypassed forms.now.forms forms.now.options (side_of side) (game_by forms.now rows.entry) v.items) }
 {
     let mut chosen = Vec::new(heap);
     let own = rows.of(side);
@@ -28,18 +27,17 @@ pub fn bypass(heap: Global, forms: Forms, side: Side, rows: Rows) -> Result<Vec<
 
 // Keeps form x in a row, or, where it is reversible, what follows the reply.
 fn keep(
-    forms: Forms,
+    forms: &Forms,
     side: Side,
     x: u16,
     rows: Rows,
     chosen: &mut Vec<u16>,
 ) -> Result<(), AllocError>
-    requires sound { IsSound forms }
-    requires known { x < length forms.forms.now }
-    requires rows { BothKnown forms.forms.now rows.upright.now rows.flat.now }
-    requires allowed { NotWorse (side_of side) (game_by forms rows) (game_of forms x) }
-    requires fit { Fit forms.forms.now forms.options.now (side_of side) (game_by forms rows) chosen.old.items }
-    ensures { OnOk result (Passed forms.entry.forms.now forms.entry.options.now (side_of side) (game_by forms.entry rows.entry) chosen.old.items x chosen.new.items) }
+    requires known { x < length forms.now.forms }
+    requires rows { BothKnown forms.now.forms rows.upright.now rows.flat.now }
+    requires allowed { NotWorse (side_of side) (game_by forms.now rows) (game_of forms.now x) }
+    requires fit { Fit forms.now.forms forms.now.options (side_of side) (game_by forms.now rows) chosen.old.items }
+    ensures { OnOk result (Passed forms.now.forms forms.now.options (side_of side) (game_by forms.now rows.entry) chosen.old.items x chosen.new.items) }
 {
     let Some(y) = reply(forms, side, x, rows) else {
         return insert(chosen, x);

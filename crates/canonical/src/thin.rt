@@ -13,11 +13,10 @@ use forms::rows::Forms;
 use std::alloc::{AllocError, Global};
 
 // The forms of a rising row that no other form of it dominates for a side.
-pub fn thin(heap: Global, forms: Forms, side: Side, row: &[u16]) -> Result<Vec<u16>, AllocError>
-    requires sound { IsSound forms }
-    requires known { Known forms.forms.now row.now }
+pub fn thin(heap: Global, forms: &Forms, side: Side, row: &[u16]) -> Result<Vec<u16>, AllocError>
+    requires known { Known forms.now.forms row.now }
     requires rising { Rising row.now }
-    ensures { IfOk result (λ v. Thinned forms.entry.forms.now forms.entry.options.now (side_of side) row.now v.items) }
+    ensures { IfOk result (λ v. Thinned forms.now.forms forms.now.options (side_of side) row.now v.items) }
 {
     let mut best = Vec::new(heap);
     for (i, x) in row.iter().enumerate() {
@@ -35,11 +34,10 @@ pub fn thin(heap: Global, forms: Forms, side: Side, row: &[u16]) -> Result<Vec<u
 }
 
 // Is form x no better for a side than some form of a row.
-fn is_dominated(forms: Forms, side: Side, x: u16, row: &[u16]) -> bool
-    requires sound { IsSound forms }
-    requires first { x < length forms.forms.now }
-    requires known { Known forms.forms.now row.now }
-    ensures { Dominated forms.entry.forms.now forms.entry.options.now (side_of side) x row.now result }
+fn is_dominated(forms: &Forms, side: Side, x: u16, row: &[u16]) -> bool
+    requires first { x < length forms.now.forms }
+    requires known { Known forms.now.forms row.now }
+    ensures { Dominated forms.now.forms forms.now.options (side_of side) x row.now result }
 {
     for y in row {
         if worse(forms, side, x, *y) {

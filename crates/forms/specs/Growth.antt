@@ -39,10 +39,6 @@ pub record Kept (fs : List Form) (os : List ℕ) (gs : List Form) (ps : List ℕ
 abbrev pub NoTable : List Form → List ℕ → Type 0
 NoTable fs os = (length fs ≡ 0) ⊎ ((16384 < length fs) ⊎ (length os < 32 * length fs))
 
--- a table can be begun
-abbrev pub HasRoom : List Form → List ℕ → Type 0
-HasRoom fs os = (0 < length fs) × (length fs ≤ 16384) × (32 * length fs ≤ length os)
-
 -- what beginning a table answers: a table of one form; or none exactly if none can be begun, and nothing is changed
 abbrev pub Started : List Form → List ℕ → List Form → Option ℕ → Type 0
 Started fs os gs (Some n) = (n ≡ 1) × Table gs os 1

@@ -5,4 +5,5 @@ pub mod Soundness
 pub mod Links
 pub mod Growth
 pub mod Laws
+pub mod Held
 pub mod Values

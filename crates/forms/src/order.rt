@@ -1,7 +1,7 @@
 // The test of order. The two functions call each other, and the sum of the two numbers falls.
 ghost use Rattle.std.specs.Prelude.{◌<◌, length, MatchBool};
 ghost use Rattle.games.specs.Order.{Le, NotLe};
-ghost use Rattle.forms.specs.Values.{IsSound, game_of};
+ghost use Rattle.forms.specs.Values.{game_of};
 ghost use Rattle.forms.specs.Laws.{OneNumber, FirstEmpty};
 
 use crate::rows::Forms;
@@ -10,11 +10,10 @@ use board::side::Side;
 impl Forms<'_> {
     // Is form g at most form h: no upright option of g has h at most it, and no flat option of h is at most g.
     #[cycle(at_most_not_at_most)]
-    pub fn at_most(self, g: u16, h: u16) -> bool
-        requires sound { IsSound self }
-        requires first { g < length self.forms.now }
-        requires second { h < length self.forms.now }
-        ensures { MatchBool result (Le (game_of self.entry g) (game_of self.entry h)) (NotLe (game_of self.entry g) (game_of self.entry h)) }
+    pub fn at_most(&self, g: u16, h: u16) -> bool
+        requires first { g < length self.now.forms }
+        requires second { h < length self.now.forms }
+        ensures { MatchBool result (Le (game_of self.now g) (game_of self.now h)) (NotLe (game_of self.now g) (game_of self.now h)) }
     {
         let uprights = self.row(Side::Upright, g);
         for x in uprights {
@@ -33,11 +32,10 @@ impl Forms<'_> {
 
     // Is form g not at most form h: h is at most some upright option of g, or some flat option of h is at most g.
     #[cycle(at_most_not_at_most)]
-    pub fn not_at_most(self, g: u16, h: u16) -> bool
-        requires sound { IsSound self }
-        requires first { g < length self.forms.now }
-        requires second { h < length self.forms.now }
-        ensures { MatchBool result (NotLe (game_of self.entry g) (game_of self.entry h)) (Le (game_of self.entry g) (game_of self.entry h)) }
+    pub fn not_at_most(&self, g: u16, h: u16) -> bool
+        requires first { g < length self.now.forms }
+        requires second { h < length self.now.forms }
+        ensures { MatchBool result (NotLe (game_of self.now g) (game_of self.now h)) (Le (game_of self.now g) (game_of self.now h)) }
     {
         let own = self.row(Side::Upright, g);
         for x in own {

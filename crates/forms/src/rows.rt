@@ -6,6 +6,7 @@ ghost use Rattle.forms.specs.Rows.{row_of, row_for};
 ghost use Rattle.forms.specs.Values.{IsSound};
 
 use board::side::Side;
+use std::marker::Model;
 
 // How many options a form has for each player, and its links: the last form of the bucket with this number, and the form before this one in its
 // own bucket.
@@ -25,19 +26,31 @@ pub const BLANK: Form = Form {
     next: None,
 };
 
-// Forms to be read, and the memory in which their options stand.
-#[derive(Clone, Copy)]
+// Sound forms to be read, and the memory in which their options stand.
+#[derive(Drop)]
 pub struct Forms<'a> {
     pub forms: &'a [Form],
     pub options: &'a [u16],
 }
 
+impl<'a> Model for Forms<'a> {
+    ghost use Rattle.forms.specs.Held.{Read};
+
+    ghost Value = { Read };
+
+    ghost use Rattle.forms.specs.Soundness.{Sound};
+
+    ghost view = { λ f. record { forms = f.forms.now; options = f.options.now } };
+
+    ghost invariant = { λ f. Sound f.forms.now f.options.now };
+}
+
 impl<'a> Forms<'a> {
     // The options of form k for a side.
-    pub fn row(self, side: Side, k: u16) -> &'a [u16]
-        requires sound { IsSound self }
-        requires known { k < length self.forms.now }
-        ensures { result.now ≡ row_of self.entry.forms.now self.entry.options.now (side_of side) k }
+    pub fn row(&self, side: Side, k: u16) -> &'a [u16]
+        requires { k < length self.now.forms }
+        ensures row { result.now ≡ row_of self.now.forms self.now.options (side_of side) k }
+        ensures sound { IsSound self.now }
     {
         let form = self.forms[k as usize];
         let start = 32 * k as usize;

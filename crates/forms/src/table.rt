@@ -2,18 +2,31 @@
 ghost use Rattle.std.specs.Prelude.{◌≡◌, ℕ, ◌+◌, ◌%◌, ◌<◌, ◌≤◌, true, false, length, take, drop, Decides, slice_index_or};
 ghost use Rattle.forms.specs.Rows.{blank};
 ghost use Rattle.forms.specs.Links.{mixed, bucket_of};
-ghost use Rattle.forms.specs.Growth.{IsRow, Found, Fresh, Kept, Started, Begun, HasRoom};
-ghost use Rattle.forms.specs.Values.{IsSound, IsTable, in_use, SameRows, BegunIn};
+ghost use Rattle.forms.specs.Growth.{IsRow, Found, Fresh, Started, Begun};
+ghost use Rattle.forms.specs.Values.{IsTable, in_use, SameRows, Stays, BegunIn};
 
 use crate::rows::{BLANK, Form, Forms, Rows};
 use board::side::Side;
+use std::marker::Model;
 
-// Two lent rows, one for forms and one for their options, and how many forms are in use.
+// A table: two lent rows, one for forms and one for their options, and how many forms are in use.
 #[derive(Drop)]
 pub struct Table<'a> {
     pub forms: &'a mut [Form],
     pub options: &'a mut [u16],
     pub used: u16,
+}
+
+impl<'a> Model for Table<'a> {
+    ghost use Rattle.forms.specs.Held.{Lent};
+
+    ghost Value = { Lent };
+
+    ghost use Rattle.forms.specs.Links.{Table as Holds};
+
+    ghost view = { λ t. record { forms = t.forms; options = t.options; used = t.used } };
+
+    ghost invariant = { λ t. Holds t.forms.now t.options.now t.used };
 }
 
 impl<'a> Table<'a> {
@@ -31,10 +44,9 @@ impl<'a> Table<'a> {
 
     // The forms in use, to be read.
     pub fn in_use(&self) -> Forms<'_>
-        requires { IsTable self.now }
-        ensures sound { IsSound result }
-        ensures forms { result.forms.now ≡ in_use self.now }
-        ensures options { result.options.now ≡ self.now.options.now }
+        ensures forms { result.forms ≡ in_use self.now }
+        ensures options { result.options ≡ self.now.options.now }
+        ensures table { IsTable self.now }
     {
         Forms {
             forms: &self.forms[..self.used as usize],
@@ -44,13 +56,12 @@ impl<'a> Table<'a> {
 
     // The form in use that has these two rows, or None where no form has them.
     pub fn find(&self, rows: Rows) -> Option<u16>
-        requires { IsTable self.now }
         ensures { Found (in_use self.now) self.now.options.now rows.entry.upright.now rows.entry.flat.now result }
     {
         let in_use = self.in_use();
         let mut link = self.forms[bucket(self.forms.len(), rows)].head;
         while let Some(k) = link {
-            if is_row(in_use, k, rows) {
+            if is_row(&in_use, k, rows) {
                 return Some(k);
             }
             link = self.forms[k as usize].next;
@@ -60,15 +71,13 @@ impl<'a> Table<'a> {
 
     // Adds a form with these two rows as the next one, and gives its number.
     pub fn add(&mut self, rows: Rows) -> u16
-        requires table { IsTable self.old }
         requires room { self.old.used < length self.old.forms.now }
         requires fresh { Fresh (in_use self.old) self.old.options.now rows.upright.now rows.flat.now }
         ensures number { result ≡ self.old.used }
         ensures used { self.new.used ≡ self.old.used + 1 }
         ensures table { IsTable self.new }
-        ensures kept { Kept (in_use self.old) self.old.options.now (in_use self.new) self.new.options.now }
         ensures row { IsRow (in_use self.new) self.new.options.now rows.entry.upright.now rows.entry.flat.now result }
-        ensures same { SameRows self.old self.new }
+        ensures stays { Stays self.old self.new }
     {
         let k = self.used;
         let n = k as usize;
@@ -90,8 +99,6 @@ impl<'a> Table<'a> {
 
     // Begins the table anew: with form 0, the empty game, alone.
     pub fn clear(&mut self)
-        requires { HasRoom self.old.forms.now self.old.options.now }
-        ensures table { IsTable self.new }
         ensures used { self.new.used ≡ 1 }
         ensures same { SameRows self.old self.new }
     {
@@ -100,10 +107,9 @@ impl<'a> Table<'a> {
 }
 
 // Does form k have these two rows.
-fn is_row(forms: Forms, k: u16, rows: Rows) -> bool
-    requires sound { IsSound forms }
-    requires known { k < length forms.forms.now }
-    ensures { Decides result (IsRow forms.entry.forms.now forms.entry.options.now rows.entry.upright.now rows.entry.flat.now k) }
+fn is_row(forms: &Forms, k: u16, rows: Rows) -> bool
+    requires { k < length forms.now.forms }
+    ensures { Decides result (IsRow forms.now.forms forms.now.options rows.entry.upright.now rows.entry.flat.now k) }
 {
     forms.row(Side::Upright, k) == rows.upright && forms.row(Side::Flat, k) == rows.flat
 }

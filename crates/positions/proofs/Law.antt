@@ -22,7 +22,7 @@ use Rattle.positions.proofs.Played.{leads_comes, comes_leads}
 use Rattle.positions.proofs.Growth.{grows_as}
 use Rattle.positions.proofs.Forming.{noted_form, noted_on}
 use Rattle.forms.specs.declared.rows.Form.{Form}
-use Rattle.forms.specs.declared.table.Table.{Table as Lent}
+use Rattle.forms.specs.Held.{Lent}
 use Rattle.forms.specs.Meaning.{meaning}
 use Rattle.forms.proofs.Risings.{has_none}
 use Rattle.canonical.specs.Reducing.{Inserted}

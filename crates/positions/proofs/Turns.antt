@@ -6,7 +6,7 @@ use Rattle.games.proofs.Sides.{equal_refl, equal_sym, equal_trans}
 use Rattle.std.proofs.lemmas.List.{get_or-set_same, get_or-set_other}
 use Rattle.std.proofs.lemmas.Bool.{cases_eq, cases_lt}
 use Rattle.forms.specs.declared.rows.Form.{Form}
-use Rattle.forms.specs.declared.table.Table.{Table as Lent}
+use Rattle.forms.specs.Held.{Lent}
 use Rattle.forms.specs.Rows.{row_for}
 use Rattle.forms.specs.Meaning.{meaning, given}
 use Rattle.forms.specs.Links.{Table}

@@ -7,7 +7,7 @@ use Rattle.board.specs.Grid.{Grid, free_count}
 use Rattle.board.specs.Tree.{tree}
 use Rattle.rooms.specs.Games.{through}
 use Rattle.forms.specs.declared.rows.Form.{Form}
-use Rattle.forms.specs.declared.table.Table.{Table as Lent}
+use Rattle.forms.specs.Held.{Lent}
 use Rattle.forms.specs.Meaning.{meaning}
 use Rattle.forms.specs.Rows.{Rising}
 use Rattle.canonical.specs.declared.canonical.Refusal.{Refusal}

@@ -16,7 +16,7 @@ use Rattle.board.specs.Tree.{tree}
 use Rattle.rooms.specs.Games.{through}
 use Rattle.rooms.proofs.Through.{seen_fewer}
 use Rattle.forms.specs.declared.rows.Form.{Form}
-use Rattle.forms.specs.declared.table.Table.{Table as Lent}
+use Rattle.forms.specs.Held.{Lent}
 use Rattle.forms.specs.Meaning.{meaning}
 use Rattle.forms.specs.Links.{Table}
 use Rattle.forms.proofs.Chains.{use_length}

@@ -17,14 +17,14 @@ place-requires c =
     let up = of_read (λ gs ps. Reduced gs ps true (given gs ps us ls) c.in_ok-upright.upright.items) c.in_use.ensures.forms c.in_use.ensures.options c.in_ok-upright.ensures in
     let low = of_read (λ gs ps. Reduced gs ps false (given gs ps us ls) c.in_ok-flat.flat.items) c.in_use-2.ensures.forms c.in_use-2.ensures.options c.in_ok-flat.ensures in
     record {
-      table = c.requires.table;
+      table = c.in_use.ensures.table;
       reduced =
-          reduction fs t.options.now c.requires.table.sound g c.as_slice.result.now c.as_slice-2.result.now
+          reduction fs t.options.now c.in_use.ensures.table.sound g c.as_slice.result.now c.as_slice-2.result.now
           (both_reduced fs t.options.now g c.as_slice.result.now c.as_slice-2.result.now _ _ c.as_slice.ensures.value c.as_slice-2.ensures.value up low);
     }
 
-pub returns : goal.returns
-returns c =
+pub returns-clause-answer : goal.returns-clause-answer
+returns-clause-answer c =
     let t = c.args.table.now in
     let fs = in_use t in
     let os = t.options.now in
@@ -33,10 +33,6 @@ returns c =
     let g = game_from t c.args.rows in
     let up = of_read (λ gs ps. Reduced gs ps true (given gs ps us ls) c.in_ok-upright.upright.items) c.in_use.ensures.forms c.in_use.ensures.options c.in_ok-upright.ensures in
     let low = of_read (λ gs ps. Reduced gs ps false (given gs ps us ls) c.in_ok-flat.flat.items) c.in_use-2.ensures.forms c.in_use-2.ensures.options c.in_ok-flat.ensures in
-    record {
-      answer =
-          outcome_equal t c.place.new.table g (given fs os c.as_slice.result.now c.as_slice-2.result.now)
-          (equal_reduced fs os c.requires.table.sound g c.as_slice.result.now c.as_slice-2.result.now
-          (both_reduced fs os g c.as_slice.result.now c.as_slice-2.result.now _ _ c.as_slice.ensures.value c.as_slice-2.ensures.value up low)) c.place.result c.place.ensures.answer;
-      same = c.place.ensures.same;
-    }
+    outcome_equal t c.place.new.table g (given fs os c.as_slice.result.now c.as_slice-2.result.now)
+    (equal_reduced fs os c.in_use.ensures.table.sound g c.as_slice.result.now c.as_slice-2.result.now
+    (both_reduced fs os g c.as_slice.result.now c.as_slice-2.result.now _ _ c.as_slice.ensures.value c.as_slice-2.ensures.value up low)) c.place.result c.place.ensures.answer

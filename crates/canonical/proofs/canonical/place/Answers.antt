@@ -1,4 +1,4 @@
-use Rattle.std.proofs.Common.{refl, inl, inr, arith}
+use Rattle.std.proofs.Common.{◌≡◌, length, refl, subst, inl, inr, arith}
 use Rattle.canonical.proofs.Placing.{few_both, placed_wide, placed_found, placed_full, fresh, placed_new}
 use Rattle.canonical.proofs.canonical.place.Goals as goal
 use Rattle.canonical.proofs.canonical.place.Goals.{then-rows-gt16-via-then-rows-gt16, then-rows-gt16-via-else-rows-gt16+then-rows-gt16-2}
@@ -29,15 +29,14 @@ returns-then-table-clause-answer c =
       refl,
       refl,
       placed_full t.forms.now t.options.now t.used c.requires.table c.args.rows.upright.now c.args.rows.flat.now c.requires.reduced
-          (few_both c.args.rows.upright.now c.args.rows.flat.now c.if-rows-gt16.false c.if-rows-gt16-2.false) c.in_default.ensures c.if-table.true,
+          (few_both c.args.rows.upright.now c.args.rows.flat.now c.if-rows-gt16.false c.if-rows-gt16-2.false) c.in_default.ensures (subst (λ v. v.used ≡ length v.forms.now) c.table.view_is c.if-table.true),
     )
 
 pub add-requires : goal.add-requires
 add-requires c =
     let t = c.args.table.now in
     record {
-      table = c.requires.table;
-      room = omega (arith, c.requires.table.within);
+      room = (let ne : t.used ≡ length t.forms.now → ⊥ = subst (λ v. v.used ≡ length v.forms.now → ⊥) c.table.view_is c.if-table.false in omega (arith, c.requires.table.within));
       fresh =
           fresh t.forms.now t.options.now t.used c.requires.table c.args.rows.upright.now c.args.rows.flat.now c.requires.reduced
           (few_both c.args.rows.upright.now c.args.rows.flat.now c.if-rows-gt16.false c.if-rows-gt16-2.false) c.in_default.ensures;
@@ -48,4 +47,4 @@ returns-clause-answer c =
     let t = c.args.table.now in
     placed_new t.forms.now t.options.now t.used c.requires.table c.args.rows.upright.now c.args.rows.flat.now c.requires.reduced
     (few_both c.args.rows.upright.now c.args.rows.flat.now c.if-rows-gt16.false c.if-rows-gt16-2.false)
-    c.add.new.self c.add.result c.add.ensures.number c.add.ensures.used c.add.ensures.table c.add.ensures.kept c.add.ensures.row
+    c.add.new.self c.add.result c.add.ensures.number c.add.ensures.used c.add.ensures.table c.add.ensures.stays.kept c.add.ensures.row

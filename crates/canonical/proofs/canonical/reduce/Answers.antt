@@ -14,15 +14,14 @@ thin-requires c =
     let b = c.in_ok-firm.ensures in
     let same = sym c.as_slice.ensures.value in
     record {
-      sound = c.requires.sound;
-      known = subst (Known c.args.forms.forms.now) same (all_from_has (λ w. w < length c.args.forms.forms.now) _ b.fit.known);
+      known = subst (Known c.args.forms.now.forms) same (all_from_has (λ w. w < length c.args.forms.now.forms) _ b.fit.known);
       rising = subst Rising same b.fit.rising;
     }
 
 pub returns : goal.returns
 returns c =
-    let fs = c.args.forms.forms.now in
-    let os = c.args.forms.options.now in
+    let fs = c.args.forms.now.forms in
+    let os = c.args.forms.now.options in
     let s = (side_of c.args.side) in
     let g = given fs os c.args.rows.upright.now c.args.rows.flat.now in
     let row = vec_items c.in_ok-firm.firm in

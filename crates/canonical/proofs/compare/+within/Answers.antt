@@ -14,47 +14,46 @@ use Rattle.canonical.proofs.compare.+within.Goals as goal
 
 pub within-requires : goal.within-requires
 within-requires t c =
-    let low = option_below c.args.forms.forms.now c.args.forms.options.now (side_of c.args.side) c.args.k c.requires.sound c.requires.known _ c.row-own.ensures c.loop-x.x-index c.loop-x-test.true in
-    let known : get_or c.row-own.result.now c.loop-x.x-index 0 < length c.args.forms.forms.now = omega arith in
-    (omega (arith, c.decreases), (c.requires.sound, (known, c.requires.rows)))
+    let low = option_below c.args.forms.now.forms c.args.forms.now.options (side_of c.args.side) c.args.k c.row-own.ensures.sound c.requires.known _ c.row-own.ensures.row c.loop-x.x-index c.loop-x-test.true in
+    let known : get_or c.row-own.result.now c.loop-x.x-index 0 < length c.args.forms.now.forms = omega arith in
+    (omega (arith, c.decreases), (known, c.requires.rows))
 
 pub returns-then-within : goal.returns-then-within
 returns-then-within t c =
-    not_by_own c.args.forms.forms.now c.args.forms.options.now c.requires.sound c.args.rows.upright.now c.args.rows.flat.now (side_of c.args.side) c.args.k c.requires.known
-    _ c.row-own.ensures c.loop-x.x-index c.loop-x-test.true (subst (λ t. Worse t (game_of c.args.forms (get_or c.row-own.result.now c.loop-x.x-index 0)) (game_by c.args.forms c.args.rows)) c.other.ensures c.if-within.ensures)
+    not_by_own c.args.forms.now.forms c.args.forms.now.options c.row-own.ensures.sound c.args.rows.upright.now c.args.rows.flat.now (side_of c.args.side) c.args.k c.requires.known
+    _ c.row-own.ensures.row c.loop-x.x-index c.loop-x-test.true (subst (λ t. Worse t (game_of c.args.forms.now (get_or c.row-own.result.now c.loop-x.x-index 0)) (game_by c.args.forms.now c.args.rows)) c.other.ensures c.if-within.ensures)
 
 pub loop-x-preserved : goal.loop-x-preserved
 loop-x-preserved t c =
-    let g = given c.args.forms.forms.now c.args.forms.options.now c.args.rows.upright.now c.args.rows.flat.now in
+    let g = given c.args.forms.now.forms c.args.forms.now.options c.args.rows.upright.now c.args.rows.flat.now in
     let x = get_or c.row-own.result.now c.loop-x.x-index 0 in
-    All-more (λ x. NotWorse (side_of c.args.side) g (meaning c.args.forms.forms.now c.args.forms.options.now x)) c.row-own.result.now c.loop-x.x-index 0 c.loop-x-test.true c.loop-x.invariant
-    (turn_not (side_of c.args.side) (meaning c.args.forms.forms.now c.args.forms.options.now x) g
-    (subst (λ t. NotWorse t (game_of c.args.forms x) (game_by c.args.forms c.args.rows)) c.other.ensures c.if-within.ensures))
+    All-more (λ x. NotWorse (side_of c.args.side) g (meaning c.args.forms.now.forms c.args.forms.now.options x)) c.row-own.result.now c.loop-x.x-index 0 c.loop-x-test.true c.loop-x.invariant
+    (turn_not (side_of c.args.side) (meaning c.args.forms.now.forms c.args.forms.now.options x) g
+    (subst (λ t. NotWorse t (game_of c.args.forms.now x) (game_by c.args.forms.now c.args.rows)) c.other.ensures c.if-within.ensures))
 
 pub worse-requires : goal.worse-requires
 worse-requires t c =
     record {
-      sound = c.requires.sound;
-      first = known_at c.args.forms.forms.now c.args.rows.upright.now c.args.rows.flat.now c.requires.rows (other (side_of c.args.side)) _ (subst (λ t. c.of-replies.result.now ≡ row_for t c.args.rows.upright.now c.args.rows.flat.now) c.other-2.ensures c.of-replies.ensures) c.loop-y.y-index c.loop-y-test.true;
+      first = known_at c.args.forms.now.forms c.args.rows.upright.now c.args.rows.flat.now c.requires.rows (other (side_of c.args.side)) _ (subst (λ t. c.of-replies.result.now ≡ row_for t c.args.rows.upright.now c.args.rows.flat.now) c.other-2.ensures c.of-replies.ensures) c.loop-y.y-index c.loop-y-test.true;
       second = c.requires.known;
     }
 
 pub returns-then-worse : goal.returns-then-worse
 returns-then-worse t c =
-    not_by_given c.args.forms.forms.now c.args.forms.options.now c.requires.sound c.args.rows.upright.now c.args.rows.flat.now (side_of c.args.side) c.args.k c.requires.known
+    not_by_given c.args.forms.now.forms c.args.forms.now.options c.row-own.ensures.sound c.args.rows.upright.now c.args.rows.flat.now (side_of c.args.side) c.args.k c.requires.known
     _ (subst (λ t. c.of-replies.result.now ≡ row_for t c.args.rows.upright.now c.args.rows.flat.now) c.other-2.ensures c.of-replies.ensures) c.loop-y.y-index c.loop-y-test.true c.if-worse.ensures
 
 pub loop-y-preserved : goal.loop-y-preserved
 loop-y-preserved t c =
-    All-more (λ y. NotWorse (side_of c.args.side) (meaning c.args.forms.forms.now c.args.forms.options.now y) (meaning c.args.forms.forms.now c.args.forms.options.now c.args.k))
+    All-more (λ y. NotWorse (side_of c.args.side) (meaning c.args.forms.now.forms c.args.forms.now.options y) (meaning c.args.forms.now.forms c.args.forms.now.options c.args.k))
     c.of-replies.result.now c.loop-y.y-index 0 c.loop-y-test.true c.loop-y.invariant c.if-worse.ensures
 
 pub returns : goal.returns
 returns t c =
-    let fs = c.args.forms.forms.now in
-    let os = c.args.forms.options.now in
+    let fs = c.args.forms.now.forms in
+    let os = c.args.forms.now.options in
     let s = (side_of c.args.side) in
     let g = given fs os c.args.rows.upright.now c.args.rows.flat.now in
-    within_all fs os c.requires.sound c.args.rows.upright.now c.args.rows.flat.now s c.args.k c.requires.known
-    (walked (λ x. NotWorse s g (meaning fs os x)) _ _ c.row-own.ensures c.loop-x.x-index (omega arith) c.loop-x.invariant)
+    within_all fs os c.row-own.ensures.sound c.args.rows.upright.now c.args.rows.flat.now s c.args.k c.requires.known
+    (walked (λ x. NotWorse s g (meaning fs os x)) _ _ c.row-own.ensures.row c.loop-x.x-index (omega arith) c.loop-x.invariant)
     (walked (λ y. NotWorse s (meaning fs os y) (meaning fs os c.args.k)) _ _ (subst (λ t. c.of-replies.result.now ≡ row_for t c.args.rows.upright.now c.args.rows.flat.now) c.other-2.ensures c.of-replies.ensures) c.loop-y.y-index (omega arith) c.loop-y.invariant)

@@ -9,7 +9,7 @@ abbrev pub decreases-within : given'.decreases-within
 decreases-within l = l.k
 
 abbrev pub invariant-loop-x : given'.invariant-loop-x
-invariant-loop-x l = Every (λ x. NotWorse (side_of l.side) (given l.forms.forms.now l.forms.options.now l.rows.upright.now l.rows.flat.now) (meaning l.forms.forms.now l.forms.options.now x)) (take l.x-index l.own)
+invariant-loop-x l = Every (λ x. NotWorse (side_of l.side) (given l.forms.forms l.forms.options l.rows.upright.now l.rows.flat.now) (meaning l.forms.forms l.forms.options x)) (take l.x-index l.own)
 
 abbrev pub invariant-loop-y : given'.invariant-loop-y
-invariant-loop-y l = Every (λ y. NotWorse (side_of l.side) (meaning l.forms.forms.now l.forms.options.now y) (meaning l.forms.forms.now l.forms.options.now l.k)) (take l.y-index l.replies)
+invariant-loop-y l = Every (λ y. NotWorse (side_of l.side) (meaning l.forms.forms l.forms.options y) (meaning l.forms.forms l.forms.options l.k)) (take l.y-index l.replies)

@@ -12,30 +12,30 @@ use Rattle.canonical.proofs.compare.reply.Goals as goal
 
 pub within-requires : goal.within-requires
 within-requires c =
-    let low = option_below c.args.forms.forms.now c.args.forms.options.now (other (side_of c.args.side)) c.args.x c.requires.sound c.requires.known _ (subst (λ t. c.row-replies.result.now ≡ row_of c.args.forms.forms.now c.args.forms.options.now t c.args.x) c.other.ensures c.row-replies.ensures) c.loop-y.y-index c.loop-y-test.true in
-    let known : get_or c.row-replies.result.now c.loop-y.y-index 0 < length c.args.forms.forms.now = omega arith in
-    record { sound = c.requires.sound; known = known; rows = c.requires.rows }
+    let low = option_below c.args.forms.now.forms c.args.forms.now.options (other (side_of c.args.side)) c.args.x c.row-replies.ensures.sound c.requires.known _ (subst (λ t. c.row-replies.result.now ≡ row_of c.args.forms.now.forms c.args.forms.now.options t c.args.x) c.other.ensures c.row-replies.ensures.row) c.loop-y.y-index c.loop-y-test.true in
+    let known : get_or c.row-replies.result.now c.loop-y.y-index 0 < length c.args.forms.now.forms = omega arith in
+    record { known = known; rows = c.requires.rows }
 
 pub returns-then-within : goal.returns-then-within
 returns-then-within c =
-    let fs = c.args.forms.forms.now in
-    let os = c.args.forms.options.now in
+    let fs = c.args.forms.now.forms in
+    let os = c.args.forms.now.options in
     let s = other (side_of c.args.side) in (
-      option_below fs os s c.args.x c.requires.sound c.requires.known _ (subst (λ t. c.row-replies.result.now ≡ row_of c.args.forms.forms.now c.args.forms.options.now t c.args.x) c.other.ensures c.row-replies.ensures) c.loop-y.y-index c.loop-y-test.true,
-      option_at fs os c.requires.sound s c.args.x c.requires.known _ (subst (λ t. c.row-replies.result.now ≡ row_of c.args.forms.forms.now c.args.forms.options.now t c.args.x) c.other.ensures c.row-replies.ensures) c.loop-y.y-index c.loop-y-test.true,
+      option_below fs os s c.args.x c.row-replies.ensures.sound c.requires.known _ (subst (λ t. c.row-replies.result.now ≡ row_of c.args.forms.now.forms c.args.forms.now.options t c.args.x) c.other.ensures c.row-replies.ensures.row) c.loop-y.y-index c.loop-y-test.true,
+      option_at fs os c.row-replies.ensures.sound s c.args.x c.requires.known _ (subst (λ t. c.row-replies.result.now ≡ row_of c.args.forms.now.forms c.args.forms.now.options t c.args.x) c.other.ensures c.row-replies.ensures.row) c.loop-y.y-index c.loop-y-test.true,
       c.if-within.ensures,
     )
 
 pub loop-y-preserved : goal.loop-y-preserved
 loop-y-preserved c =
-    let g = given c.args.forms.forms.now c.args.forms.options.now c.args.rows.upright.now c.args.rows.flat.now in
-    All-more (λ y. NotWorse (side_of c.args.side) (meaning c.args.forms.forms.now c.args.forms.options.now y) g) c.row-replies.result.now c.loop-y.y-index 0 c.loop-y-test.true c.loop-y.invariant c.if-within.ensures
+    let g = given c.args.forms.now.forms c.args.forms.now.options c.args.rows.upright.now c.args.rows.flat.now in
+    All-more (λ y. NotWorse (side_of c.args.side) (meaning c.args.forms.now.forms c.args.forms.now.options y) g) c.row-replies.result.now c.loop-y.y-index 0 c.loop-y-test.true c.loop-y.invariant c.if-within.ensures
 
 pub returns : goal.returns
 returns c =
-    let fs = c.args.forms.forms.now in
-    let os = c.args.forms.options.now in
+    let fs = c.args.forms.now.forms in
+    let os = c.args.forms.now.options in
     let s = (side_of c.args.side) in
     let g = given fs os c.args.rows.upright.now c.args.rows.flat.now in
-    of_row fs os c.requires.sound (λ y. NotWorse s y g) (other s) c.args.x c.requires.known
-    (walked (λ y. NotWorse s (meaning fs os y) g) _ _ (subst (λ t. c.row-replies.result.now ≡ row_of c.args.forms.forms.now c.args.forms.options.now t c.args.x) c.other.ensures c.row-replies.ensures) c.loop-y.y-index (omega arith) c.loop-y.invariant)
+    of_row fs os c.row-replies.ensures.sound (λ y. NotWorse s y g) (other s) c.args.x c.requires.known
+    (walked (λ y. NotWorse s (meaning fs os y) g) _ _ (subst (λ t. c.row-replies.result.now ≡ row_of c.args.forms.now.forms c.args.forms.now.options t c.args.x) c.other.ensures c.row-replies.ensures.row) c.loop-y.y-index (omega arith) c.loop-y.invariant)

@@ -6,4 +6,4 @@ use Rattle.forms.specs.Meaning.{meaning, given}
 use Rattle.canonical.proofs.compare.reply.Given as given'
 
 abbrev pub invariant-loop-y : given'.invariant-loop-y
-invariant-loop-y l = Every (λ y. NotWorse (side_of l.side) (meaning l.forms.forms.now l.forms.options.now y) (given l.forms.forms.now l.forms.options.now l.rows.upright.now l.rows.flat.now)) (take l.y-index l.replies)
+invariant-loop-y l = Every (λ y. NotWorse (side_of l.side) (meaning l.forms.forms l.forms.options y) (given l.forms.forms l.forms.options l.rows.upright.now l.rows.flat.now)) (take l.y-index l.replies)

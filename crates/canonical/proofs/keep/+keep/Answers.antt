@@ -11,8 +11,8 @@ use Rattle.canonical.proofs.keep.+keep.Goals as goal
 
 pub returns-in_default : goal.returns-in_default
 returns-in_default t c =
-    let fs = c.args.forms.forms.now in
-    let os = c.args.forms.options.now in
+    let fs = c.args.forms.now.forms in
+    let os = c.args.forms.now.options in
     let g = given fs os c.args.rows.upright.now c.args.rows.flat.now in
     let row = vec_items c.args.chosen.now in
     let new = vec_items c.insert.new.row in
@@ -21,12 +21,12 @@ returns-in_default t c =
 
 pub loop-z-init : goal.loop-z-init
 loop-z-init t c =
-    passing_none c.args.forms.forms.now c.args.forms.options.now (side_of c.args.side) (given c.args.forms.forms.now c.args.forms.options.now c.args.rows.upright.now c.args.rows.flat.now) (vec_items c.args.chosen.now) c.requires.fit
+    passing_none c.args.forms.now.forms c.args.forms.now.options (side_of c.args.side) (given c.args.forms.now.forms c.args.forms.now.options c.args.rows.upright.now c.args.rows.flat.now) (vec_items c.args.chosen.now) c.requires.fit
 
 pub keep-requires : goal.keep-requires
 keep-requires t c =
-    let fs = c.args.forms.forms.now in
-    let os = c.args.forms.options.now in
+    let fs = c.args.forms.now.forms in
+    let os = c.args.forms.now.options in
     let s = (side_of c.args.side) in
     let g = given fs os c.args.rows.upright.now c.args.rows.flat.now in
     let r = c.in-Some.ensures in
@@ -34,27 +34,27 @@ keep-requires t c =
     let z = get_or c.row-after.result.now c.loop-z.z-index 0 in
     let less = r.0 in
     let known_y : y < length fs = omega (arith, c.requires.known) in
-    let low = option_below fs os s y c.requires.sound known_y _ c.row-after.ensures c.loop-z.z-index c.loop-z-test.true in
-    let i = option_at fs os c.requires.sound s y known_y _ c.row-after.ensures c.loop-z.z-index c.loop-z-test.true in
+    let low = option_below fs os s y c.row-after.ensures.sound known_y _ c.row-after.ensures.row c.loop-z.z-index c.loop-z-test.true in
+    let i = option_at fs os c.row-after.ensures.sound s y known_y _ c.row-after.ensures.row c.loop-z.z-index c.loop-z-test.true in
     let known : z < length fs = omega arith in
     let falls : z < c.args.x = omega arith in
-    (omega (arith, c.decreases), (c.requires.sound, (known, (c.requires.rows, (follows fs os s g c.requires.sound c.args.x y known_y r.1 r.2 z i, c.loop-z.invariant.fit)))))
+    (omega (arith, c.decreases), (known, (c.requires.rows, (follows fs os s g c.row-after.ensures.sound c.args.x y known_y r.1 r.2 z i, c.loop-z.invariant.fit))))
 
 pub loop-z-preserved : goal.loop-z-preserved
 loop-z-preserved t c =
-    let fs = c.args.forms.forms.now in
-    let os = c.args.forms.options.now in
+    let fs = c.args.forms.now.forms in
+    let os = c.args.forms.now.options in
     let g = given fs os c.args.rows.upright.now c.args.rows.flat.now in
     passing_more fs os (side_of c.args.side) g (vec_items c.args.chosen.now) (vec_items c.loop-z.chosen) (vec_items c.keep.new.chosen) c.row-after.result.now c.loop-z.z-index
     c.loop-z-test.true c.loop-z.invariant c.in_ok-keep.ensures
 
 pub returns : goal.returns
 returns t c =
-    let fs = c.args.forms.forms.now in
-    let os = c.args.forms.options.now in
+    let fs = c.args.forms.now.forms in
+    let os = c.args.forms.now.options in
     let s = (side_of c.args.side) in
     let g = given fs os c.args.rows.upright.now c.args.rows.flat.now in
     let r = c.in-Some.ensures in
     let less = r.0 in
-    bypassed fs os s g c.requires.sound c.args.x c.in-Some.y (omega (arith, c.requires.known)) r.1 r.2 (vec_items c.args.chosen.now) (vec_items c.loop-z.chosen)
-    (passing_end fs os s g (vec_items c.args.chosen.now) (vec_items c.loop-z.chosen) c.row-after.result.now (row_of fs os s c.in-Some.y) c.row-after.ensures c.loop-z.z-index (omega arith) c.loop-z.invariant)
+    bypassed fs os s g c.row-after.ensures.sound c.args.x c.in-Some.y (omega (arith, c.requires.known)) r.1 r.2 (vec_items c.args.chosen.now) (vec_items c.loop-z.chosen)
+    (passing_end fs os s g (vec_items c.args.chosen.now) (vec_items c.loop-z.chosen) c.row-after.result.now (row_of fs os s c.in-Some.y) c.row-after.ensures.row c.loop-z.z-index (omega arith) c.loop-z.invariant)

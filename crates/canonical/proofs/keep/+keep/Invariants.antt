@@ -8,4 +8,4 @@ abbrev pub decreases-keep : given'.decreases-keep
 decreases-keep l = l.x
 
 abbrev pub invariant-loop-z : given'.invariant-loop-z
-invariant-loop-z l = Passing l.forms.forms.now l.forms.options.now (side_of l.side) (given l.forms.forms.now l.forms.options.now l.rows.upright.now l.rows.flat.now) (vec_items l.initial.chosen) (vec_items l.chosen) (take l.z-index l.after)
+invariant-loop-z l = Passing l.forms.forms l.forms.options (side_of l.side) (given l.forms.forms l.forms.options l.rows.upright.now l.rows.flat.now) (vec_items l.initial.chosen) (vec_items l.chosen) (take l.z-index l.after)

@@ -11,23 +11,22 @@ use Rattle.canonical.proofs.keep.bypass.Goals as goal
 
 pub loop-x-init : goal.loop-x-init
 loop-x-init c =
-    let fs = c.args.forms.forms.now in
-    let os = c.args.forms.options.now in
+    let fs = c.args.forms.now.forms in
+    let os = c.args.forms.now.options in
     let g = given fs os c.args.rows.upright.now c.args.rows.flat.now in
     let none : List ℕ = [] in
     subst (λ row. Passing fs os (side_of c.args.side) g none row none) (sym c.new-chosen.ensures.items) (passing_none fs os (side_of c.args.side) g none (fit_none fs os (side_of c.args.side) g))
 
 pub keep-requires : goal.keep-requires
 keep-requires c =
-    let fs = c.args.forms.forms.now in
-    let os = c.args.forms.options.now in
+    let fs = c.args.forms.now.forms in
+    let os = c.args.forms.now.options in
     let us = c.args.rows.upright.now in
     let ls = c.args.rows.flat.now in
     let s = (side_of c.args.side) in
     let xs = c.of-own.result.now in
     let x = get_or xs c.loop-x.x-index 0 in
     record {
-      sound = c.requires.sound;
       known = known_at fs us ls c.requires.rows s xs c.of-own.ensures c.loop-x.x-index c.loop-x-test.true;
       rows = c.requires.rows;
       allowed = own s (given fs os us ls) (meaning fs os x) (in_given fs os us ls s x (subst (λ zs. Has zs x) c.of-own.ensures (has_get_or xs c.loop-x.x-index 0 c.loop-x-test.true)));
@@ -36,15 +35,15 @@ keep-requires c =
 
 pub loop-x-preserved : goal.loop-x-preserved
 loop-x-preserved c =
-    let fs = c.args.forms.forms.now in
-    let os = c.args.forms.options.now in
+    let fs = c.args.forms.now.forms in
+    let os = c.args.forms.now.options in
     passing_more fs os (side_of c.args.side) (given fs os c.args.rows.upright.now c.args.rows.flat.now) [] (vec_items c.loop-x.chosen) (vec_items c.keep.new.chosen) c.of-own.result.now c.loop-x.x-index
     c.loop-x-test.true c.loop-x.invariant c.in_ok-keep.ensures
 
 pub returns : goal.returns
 returns c =
-    let fs = c.args.forms.forms.now in
-    let os = c.args.forms.options.now in
+    let fs = c.args.forms.now.forms in
+    let os = c.args.forms.now.options in
     let us = c.args.rows.upright.now in
     let ls = c.args.rows.flat.now in
     let s = (side_of c.args.side) in

@@ -9,9 +9,8 @@ use Rattle.canonical.proofs.thin.is_dominated.Goals as goal
 pub worse-requires : goal.worse-requires
 worse-requires c =
     record {
-      sound = c.requires.sound;
       first = c.requires.first;
-      second = All-get_or (λ y. y < length c.args.forms.forms.now) c.args.row.now c.loop-y.y-index 0 c.loop-y-test.true c.requires.known;
+      second = All-get_or (λ y. y < length c.args.forms.now.forms) c.args.row.now c.loop-y.y-index 0 c.loop-y-test.true c.requires.known;
     }
 
 pub returns-then-worse : goal.returns-then-worse
@@ -19,12 +18,12 @@ returns-then-worse c = (get_or c.args.row.now c.loop-y.y-index 0, has_get_or c.a
 
 pub loop-y-preserved : goal.loop-y-preserved
 loop-y-preserved c =
-    All-more (λ y. NotWorse (side_of c.args.side) (meaning c.args.forms.forms.now c.args.forms.options.now c.args.x) (meaning c.args.forms.forms.now c.args.forms.options.now y))
+    All-more (λ y. NotWorse (side_of c.args.side) (meaning c.args.forms.now.forms c.args.forms.now.options c.args.x) (meaning c.args.forms.now.forms c.args.forms.now.options y))
     c.args.row.now c.loop-y.y-index 0 c.loop-y-test.true c.loop-y.invariant c.if-worse.ensures
 
 pub returns : goal.returns
 returns c y h =
-    let fs = c.args.forms.forms.now in
-    let os = c.args.forms.options.now in
+    let fs = c.args.forms.now.forms in
+    let os = c.args.forms.now.options in
     let P : ℕ → Type 0 = λ y. NotWorse (side_of c.args.side) (meaning fs os c.args.x) (meaning fs os y) in
     all-has P c.args.row.now y (walked P c.args.row.now c.args.row.now refl c.loop-y.y-index (omega arith) c.loop-y.invariant) h

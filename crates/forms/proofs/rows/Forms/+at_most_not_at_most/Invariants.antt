@@ -11,13 +11,13 @@ abbrev pub decreases-not_at_most : goal.decreases-not_at_most
 decreases-not_at_most l = l.g + l.h
 
 abbrev pub invariant-at_most-loop-x : goal.invariant-at_most-loop-x
-invariant-at_most-loop-x l = Every (λ x. NotLe (meaning l.self.forms.now l.self.options.now l.h) (meaning l.self.forms.now l.self.options.now x)) (take l.x-index l.uprights)
+invariant-at_most-loop-x l = Every (λ x. NotLe (meaning l.self.forms l.self.options l.h) (meaning l.self.forms l.self.options x)) (take l.x-index l.uprights)
 
 abbrev pub invariant-at_most-loop-y : goal.invariant-at_most-loop-y
-invariant-at_most-loop-y l = Every (λ y. NotLe (meaning l.self.forms.now l.self.options.now y) (meaning l.self.forms.now l.self.options.now l.g)) (take l.y-index l.flats)
+invariant-at_most-loop-y l = Every (λ y. NotLe (meaning l.self.forms l.self.options y) (meaning l.self.forms l.self.options l.g)) (take l.y-index l.flats)
 
 abbrev pub invariant-not_at_most-loop-x : goal.invariant-not_at_most-loop-x
-invariant-not_at_most-loop-x l = Every (λ x. NotLe (meaning l.self.forms.now l.self.options.now l.h) (meaning l.self.forms.now l.self.options.now x)) (take l.x-index l.own)
+invariant-not_at_most-loop-x l = Every (λ x. NotLe (meaning l.self.forms l.self.options l.h) (meaning l.self.forms l.self.options x)) (take l.x-index l.own)
 
 abbrev pub invariant-not_at_most-loop-y : goal.invariant-not_at_most-loop-y
-invariant-not_at_most-loop-y l = Every (λ y. NotLe (meaning l.self.forms.now l.self.options.now y) (meaning l.self.forms.now l.self.options.now l.g)) (take l.y-index l.replies)
+invariant-not_at_most-loop-y l = Every (λ y. NotLe (meaning l.self.forms l.self.options y) (meaning l.self.forms l.self.options l.g)) (take l.y-index l.replies)
