@@ -1,7 +1,7 @@
 // The forms of a room: its own, and those of all its positions.
 ghost use Rattle.std.specs.Prelude.{◌≡◌, ℕ, ◌<◌, ◌≤◌, length, IfOk, slice_index};
 ghost use Rattle.board.specs.Values.{grid_of};
-ghost use Rattle.forms.specs.Values.{IsTable, SameRows};
+ghost use Rattle.forms.specs.Values.{Stays};
 ghost use Rattle.positions.specs.Answers.{Listed, RoomAnswer, PositionsLaw};
 ghost use Rattle.positions.specs.Values.{room_squares, full_of};
 
@@ -26,10 +26,9 @@ pub fn room_forms(
     table: &mut Table,
     positions: &mut [u32],
 ) -> Result<RoomForms, Refusal>
-    requires table { IsTable table.old }
-    requires long { full_of room.now < length positions.old }
+    requires { full_of room.now < length positions.old }
     ensures answer { RoomAnswer (grid_of room.now.board) (room_squares room.now) table.old table.new result }
-    ensures same { SameRows table.old table.new }
+    ensures stays { Stays table.old table.new }
 {
     let full = room.full();
     let sets = &mut positions[..full as usize + 1];

@@ -1,7 +1,7 @@
 // The forms of positions: that of a set is made of the forms of what the moves leave of it.
 ghost use Rattle.std.specs.Prelude.{◌≡◌, suc, ◌<◌, ◌≤◌, length, MatchOption, slice_index};
 ghost use Rattle.board.specs.Values.{side_of};
-ghost use Rattle.forms.specs.Values.{IsTable, SameRows};
+ghost use Rattle.forms.specs.Values.{Stays};
 ghost use Rattle.positions.specs.Forming.{LeadsTo, Remembered, Formed, RowFormed};
 ghost use Rattle.positions.specs.Values.{full_of};
 
@@ -22,13 +22,13 @@ pub fn form(
     positions: &mut [u32],
     set: u16,
 ) -> Result<u16, Refusal>
-    requires table { IsTable table.old }
     requires long { full_of room.now < length positions.old }
     requires memory { Remembered room.now table.old positions.old }
     requires reached { LeadsTo room.now set }
     ensures answer { Formed room.now set table.old positions.old table.new positions.new result }
-    ensures same { SameRows table.old table.new }
+    ensures stays { Stays table.old table.new }
 {
+    prove!(table.used > 0);
     if let Some(known) = recall(positions, set) {
         return Ok(known);
     }
@@ -66,13 +66,13 @@ fn option_row(
     set: u16,
     side: Side,
 ) -> Result<Vec<u16>, Refusal>
-    requires table { IsTable table.old }
     requires long { full_of room.now < length positions.old }
     requires memory { Remembered room.now table.old positions.old }
     requires reached { LeadsTo room.now set }
     ensures answer { RowFormed room.now set (side_of side) table.old positions.old table.new positions.new result }
-    ensures same { SameRows table.old table.new }
+    ensures stays { Stays table.old table.new }
 {
+    prove!(table.used > 0);
     let mut row = Vec::new(heap);
     for i in 0..room.len() {
         let Some(rest) = room.after(set, side, i) else {

@@ -10,8 +10,7 @@ pub form-requires : goal.form-requires
 form-requires c =
     let cleared = c.fill.ensures.after (search rules) in
     record {
-      table = c.requires.table;
-      long = sets_long c.args.positions.now c.fill.new.self c.full-full.result _ c.fill.ensures.len c.full-full.ensures c.requires.long;
+      long = sets_long c.args.positions.now c.fill.new.self c.full-full.result _ c.fill.ensures.len c.full-full.ensures c.requires;
       memory = forgets c.args.room.now _ _ _ c.fill.new.self (zeros _ _ cleared);
       reached = subst (LeadsTo c.args.room.now) (sym c.full-full.ensures) stay;
     }
