@@ -1,7 +1,6 @@
 // Small games by hand: each line gives two rows of forms, and the number of the form that they come to.
-ghost use Rattle.std.specs.Prelude.{◌≡◌, ◌<◌, true, IfOk};
+ghost use Rattle.std.specs.Prelude.{◌≡◌, ◌<◌, true};
 ghost use Rattle.std.specs.List.{AllByRecursion as Every};
-ghost use Rattle.forms.specs.Values.{IsTable};
 
 use crate::canonical::canonical;
 use forms::rows::{BLANK, Form, Rows};
@@ -99,10 +98,7 @@ fn run(rt: &impl Abort, heap: Global, forms: &mut [Form], options: &mut [u16]) -
 }
 
 // The form of the game with these rows, if they name forms in use.
-fn place(heap: Global, table: &mut Table, rows: Rows) -> Result<u16, Fail>
-    requires { IsTable table.old }
-    ensures { IfOk result (λ _. IsTable table.new) }
-{
+fn place(heap: Global, table: &mut Table, rows: Rows) -> Result<u16, Fail> {
     if !are_below(rows.upright, table.used) || !are_below(rows.flat, table.used) {
         return Err(Fail::new("no such form"));
     }

@@ -1,7 +1,4 @@
 // Rooms with known numbers of forms and of positions.
-ghost use Rattle.std.specs.Prelude.{OnOk};
-ghost use Rattle.forms.specs.Values.{IsTable};
-
 use board::read::read_board;
 use forms::rows::BLANK;
 use forms::table::Table;
@@ -16,10 +13,7 @@ fn count_noted(sets: &[u32]) -> usize {
 }
 
 // How many forms a room has at how many positions, in a table that goes on from room to room.
-fn tell_forms(rt: &HostRuntime, what: &str, room: &RoomMoves, table: &mut Table) -> io::Result<()>
-    requires { IsTable table.old }
-    ensures { OnOk result (IsTable table.new) }
-{
+fn tell_forms(rt: &HostRuntime, what: &str, room: &RoomMoves, table: &mut Table) -> io::Result<()> {
     let mut positions = [0u32; 65536];
     let Ok(found) = room_forms(rt.alloc(), room, table, &mut positions) else {
         return Err(io::Error::other("the table is full"));

@@ -99,6 +99,7 @@ impl<'a> Table<'a> {
 
     // Begins the table anew: with form 0, the empty game, alone.
     pub fn clear(&mut self)
+        ensures table { IsTable self.new }
         ensures used { self.new.used ≡ 1 }
         ensures same { SameRows self.old self.new }
     {

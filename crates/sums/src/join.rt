@@ -32,7 +32,7 @@ impl Memory<'_> {
         }
         let sums = &mut self.sums;
         let found = room_forms(heap, room, &mut sums.table, self.positions)?;
-        let reach = reached(heap, sums.table.in_use(), t)?;
+        let reach = reached(heap, &sums.table.in_use(), t)?;
         sums.all_sums(heap, reach.as_slice(), found.all.as_slice())?;
         let sum = sums.sum(heap, t, found.own)?;
         Ok(RoomJoined {

@@ -1,7 +1,6 @@
 // The forms that are reached from a form. Options are below the form that has them, so one pass downwards finds all.
 ghost use Rattle.std.specs.Prelude.{◌<◌, ◌≤◌, length, IfOk};
 ghost use Rattle.std.specs.List.{AllByRecursion as Every};
-ghost use Rattle.forms.specs.Values.{IsSound};
 ghost use Rattle.sums.specs.Reaching.{MarksRow, ListsMarked, Reaches};
 
 use board::side::Side;
@@ -9,12 +8,12 @@ use forms::rows::Forms;
 use std::alloc::{AllocError, Global};
 
 // All forms that are reached from form t over options of either player, t itself among them, rising.
-pub fn reached(heap: Global, forms: Forms, t: u16) -> Result<Vec<u16>, AllocError>
-    requires sound { IsSound forms }
-    requires few { length forms.forms.now ≤ 16384 }
-    requires known { t < length forms.forms.now }
-    ensures { IfOk result (λ v. Reaches forms.entry.forms.now forms.entry.options.now t v.items) }
+pub fn reached(heap: Global, forms: &Forms, t: u16) -> Result<Vec<u16>, AllocError>
+    requires few { length forms.now.forms ≤ 16384 }
+    requires known { t < length forms.now.forms }
+    ensures { IfOk result (λ v. Reaches forms.now.forms forms.now.options t v.items) }
 {
+    prove!((t as usize) < forms.forms.len());
     let mut held = Vec::from_elem(heap, false, t as usize + 1)?;
     let marks = held.as_mut_slice();
     marks[t as usize] = true;

@@ -1,8 +1,6 @@
 // The form of the sum of two forms: it is made of the forms of what the moves in the one or in the other make of it.
 ghost use Rattle.std.specs.Prelude.{◌≡◌, ◌<◌};
 ghost use Rattle.board.specs.Values.{side_of};
-ghost use Rattle.forms.specs.Growth.{HasRoom};
-ghost use Rattle.forms.specs.Values.{IsTable};
 ghost use Rattle.sums.specs.Steps.{RowKnown};
 ghost use Rattle.sums.specs.Values.{AreRight, SameSums, SumOf, StepOf, RowFor};
 
@@ -24,7 +22,6 @@ pub struct Sums<'a> {
 impl<'a> Sums<'a> {
     // A table, with nothing known of any pair.
     pub fn new(table: Table<'a>, pairs: &'a mut [u32]) -> Sums<'a>
-        requires { IsTable table }
         ensures right { AreRight result }
         ensures table { result.table ≡ table.entry }
         ensures pairs { result.pairs.ghost_name ≡ pairs.entry.ghost_name }
@@ -35,7 +32,6 @@ impl<'a> Sums<'a> {
 
     // Begins the table anew, with form 0, the empty game, alone, and forgets all pairs.
     pub fn clear(&mut self)
-        requires { HasRoom self.old.table.forms.now self.old.table.options.now }
         ensures right { AreRight self.new }
         ensures used { self.new.table.used ≡ 1 }
         ensures same { SameSums self.old self.new }

@@ -44,7 +44,7 @@ pub fn try_places(
             continue;
         };
         let worth = found_worth(heap, &next, memory)?;
-        if first.is_some() || !has_lost(memory.sums.table.in_use(), worth.sum, side.other()) {
+        if first.is_some() || !has_lost(&memory.sums.table.in_use(), worth.sum, side.other()) {
             continue;
         }
         first = Some(place);

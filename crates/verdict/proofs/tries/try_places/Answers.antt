@@ -62,7 +62,8 @@ has_lost-requires c =
     let t = c.found_worth.new.memory.sums.table in
     let worth = c.in_ok-worth.ensures.answer.1 in
     let long = ap length c.in_use.ensures.forms ∙ use_length t.forms.now t.options.now t.used worth.table in
-    record { sound = c.in_use.ensures.sound; known = (let k = worth.known in omega arith) }
+    let k = worth.known in
+    omega arith
 
 pub loop-place-preserved : goal.loop-place-preserved
 loop-place-preserved c =

@@ -1,4 +1,4 @@
-use Rattle.std.proofs.Common.{length, vec_items, refl, ◌∙◌, arith}
+use Rattle.std.proofs.Common.{length, vec_items, refl, ◌∙◌}
 use Rattle.std.proofs.lemmas.Result.{err_from_is_err_and}
 use Rattle.board.specs.Values.{grid_of}
 use Rattle.rooms.specs.Values.{rooms_of}
@@ -11,12 +11,6 @@ returns-in-Ok-clause-answer c =
     let t = c.row_of_rooms.new.self.sums in
     worth_formed (grid_of c.args.board.now) (rooms_of c.args.rooms.now) c.requires.rooms.rooms s.forms.now s.options.now s.used t.table.forms.now t.table.options.now
     s.forms.now refl t.pairs.now c.in-Ok.row.sum (vec_items c.in-Ok.row.owns) t.table.used c.in-Ok.ensures.answer
-
-pub clear-requires : goal.clear-requires
-clear-requires c =
-    let t = c.requires.right.table in
-    let same = c.in-Err-Full.ensures.same.sums.table in
-    (let e = same.places in omega (arith, t.started, t.within), let e = same.places in omega (arith, t.size), let e = same.places in let f = same.space in omega (arith, t.space))
 
 pub returns-in-Err-Wide-clause-answer : goal.returns-in-Err-Wide-clause-answer
 returns-in-Err-Wide-clause-answer c =

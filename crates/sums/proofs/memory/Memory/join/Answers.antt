@@ -25,8 +25,8 @@ reached-requires c =
     let t = c.room_forms.new.table in
     let formed = c.in_ok-found.ensures.answer in
     let far = grows_far (PositionOf (grid_of c.args.room.now.board) (room_squares c.args.room.now)) s.forms.now s.options.now s.used t.forms.now t.options.now t.used c.requires.right.table formed.grows in
-    let long : length c.in_use.result.forms.now ≡ t.used = ap length c.in_use.ensures.forms ∙ use_length t.forms.now t.options.now t.used formed.grows.table in
-    record { sound = c.in_use.ensures.sound; few = (let a = formed.grows.table.within in let b = formed.grows.table.size in omega arith); known = omega (arith, c.requires.known) }
+    let long : length c.in_use.result.forms ≡ t.used = ap length c.in_use.ensures.forms ∙ use_length t.forms.now t.options.now t.used formed.grows.table in
+    record { few = (let a = formed.grows.table.within in let b = formed.grows.table.size in omega arith); known = omega (arith, c.requires.known) }
 
 -- the room's forms, and what is reached from the sum so far, as they are added
 found : (c : After-as_slice-2) →

@@ -34,8 +34,8 @@ in_row t c =
     let s = c.args.self.now.table in (
       row_same s.forms.now s.options.now s.used (side_of c.args.side) c.args.x c.args.y c.requires.right.table c.requires.first c.requires.second
           _ _ _ _ c.loop-i.invariant.0.0.grows c.row.result.now
-          (c.row.ensures ∙ (λ i. row_of (c.in_use-in-loop-i.ensures.forms i) (c.in_use-in-loop-i.ensures.options i) (side_of c.args.side) c.args.x)),
-      subst (λ l. c.loop-i.i < length l) (c.row-many.ensures ∙ (λ i. row_of (c.in_use.ensures.forms i) (c.in_use.ensures.options i) (side_of c.args.side) c.args.x)) c.loop-i-test.true,
+          (c.row.ensures.row ∙ (λ i. row_of (c.in_use-in-loop-i.ensures.forms i) (c.in_use-in-loop-i.ensures.options i) (side_of c.args.side) c.args.x)),
+      subst (λ l. c.loop-i.i < length l) (c.row-many.ensures.row ∙ (λ i. row_of (c.in_use.ensures.forms i) (c.in_use.ensures.options i) (side_of c.args.side) c.args.x)) c.loop-i-test.true,
     )
 
 pub step-loop-i-init : goal.step-loop-i-init
@@ -86,7 +86,7 @@ step-returns-clause-answer t c =
       c.loop-i.invariant.0.0,
       step_all s.forms.now s.options.now s.used (side_of c.args.side) c.args.x c.args.y c.requires.right.table c.requires.first c.requires.second
           _ _ _ _ _ c.loop-i.i
-          (let e = ap length (c.row-many.ensures ∙ (λ i. row_of (c.in_use.ensures.forms i) (c.in_use.ensures.options i) (side_of c.args.side) c.args.x)) in
+          (let e = ap length (c.row-many.ensures.row ∙ (λ i. row_of (c.in_use.ensures.forms i) (c.in_use.ensures.options i) (side_of c.args.side) c.args.x)) in
           let low = c.loop-i.auto.i-end in
           let high = c.loop-i-test.false in
           omega arith)
@@ -125,7 +125,7 @@ rows t c =
 pub sum-canonical-requires : goal.sum-canonical-requires
 sum-canonical-requires t c =
     let both = rows t (goal.at.sum-canonical-requires t c).After-as_slice-2 in
-    record { table = both.0.grows.table; rows = rows_known _ _ _ _ _ c.as_slice.result.now c.as_slice-2.result.now both.0.grows.table both.1 both.2 }
+    rows_known _ _ _ _ _ c.as_slice.result.now c.as_slice-2.result.now both.0.grows.table both.1 both.2
 
 pub sum-returns-in_err-form-clause-answer : goal.sum-returns-in_err-form-clause-answer
 sum-returns-in_err-form-clause-answer t c =
@@ -145,5 +145,5 @@ sum-returns-clause-answer t c =
     summed s.forms.now s.options.now s.used c.args.x c.args.y c.requires.right.table c.requires.first c.requires.second
     _ _ _ _ both.0 u.forms.now u.options.now u.used c.keep.new.pairs c.in_ok-form.form
     (placed _ _ _ _ _ c.as_slice.result.now c.as_slice-2.result.now both.0.grows.table both.1 both.2
-    u.forms.now u.options.now c.in_ok-form.form u.used c.canonical.ensures.same.places c.in_ok-form.ensures.answer)
+    u.forms.now u.options.now c.in_ok-form.form u.used c.canonical.ensures.stays.rows.places c.in_ok-form.ensures.answer)
     c.keep.ensures
