@@ -115,7 +115,7 @@ fn read_squares(head: Head, bytes: &[u8]) -> Result<Setup, Refusal>
     })
 }
 
-// The checks that follow those of the first three bytes: the length, which is right or not, and the squares.
+// The checks that follow those of the first three bytes: that the file is as long as it should be, which `long` says, and the squares.
 fn read_rest(head: Head, bytes: &[u8], long: bool) -> Result<Setup, Refusal>
     requires headed { Headed bytes.now head.width head.height (side_of head.side) }
     requires bytes_in_bounds { IsTrue long → asked bytes.now + 3 ≤ length bytes.now }

@@ -1,4 +1,4 @@
--- The rows that are left make a canonical game equal to the one as given.
+-- The rows that are left make a canonical game equal to the one that the rows give.
 use Rattle.std.proofs.Common.{◌≡◌, ℕ, ◌<◌, true, false, List, length, sym, ap, ◌∙◌, subst}
 use Rattle.games.specs.Game.{Side, other, Game, options, In}
 use Rattle.games.specs.Order.{Equal, Worse, NotWorse}

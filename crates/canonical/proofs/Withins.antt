@@ -1,4 +1,4 @@
--- A form compared with the game as given, by the options of both.
+-- A form compared with the game that two rows give, by the options of both.
 use Rattle.std.proofs.Common.{◌≡◌, ℕ, ◌<◌, List, length, get_or, sym, subst}
 use Rattle.std.specs.List.{ContainsAt as Has, AllByRecursion as Every}
 use Rattle.std.proofs.ByRecursion.{All-get_or, all-has, has_get_or}

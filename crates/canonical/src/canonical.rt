@@ -21,6 +21,7 @@ pub enum Refusal {
     NoMemory,
 }
 
+// Memory that is wanting, as a refusal.
 impl From<AllocError> for Refusal {
     ghost use Rattle.canonical.specs.declared.canonical.Refusal.TheVariants.{NoMemory};
 

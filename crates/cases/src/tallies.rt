@@ -8,7 +8,7 @@ use sums::alike::alike;
 use sums::memory::Memory;
 use sums::sum::Sums;
 
-// The form and the count of the board that a file holds, from an empty table, and its rooms that are alike. At most 512 forms.
+// The form and the count of the board that a file holds, from a table of one form, and its rooms that are alike. At most 512 forms.
 fn tell_count(rt: &HostRuntime, what: &str, bytes: &[u8]) -> io::Result<()> {
     let Ok(setup) = read_board(bytes) else {
         return println!(rt; "{what}: not read");
@@ -42,6 +42,7 @@ fn tell_count(rt: &HostRuntime, what: &str, bytes: &[u8]) -> io::Result<()> {
     Ok(())
 }
 
+// Boards with their counts; on the fifth the count is lower than on the sixth, a board after one plank.
 pub(crate) fn counts(rt: &HostRuntime) -> io::Result<()> {
     tell_count(rt, "two blocks", b"\x05\x02u..#....#..")?;
     tell_count(rt, "a block and a corner", b"\x05\x02u..#....#.#")?;

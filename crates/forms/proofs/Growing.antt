@@ -39,7 +39,7 @@ module _
   pub kept_more : Kept fs os gs ps
   kept_more = record { longer = omega arith; rows = older; games = meaning_same fs os gs ps (length fs) sound.below older }
 
-  -- the new form means the game as given
+  -- the new form means the game that the rows give
   pub meaning_new : meaning gs ps (length fs) ≡ given fs os us ls
   unfolding meaning given
   meaning_new =

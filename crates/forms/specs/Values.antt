@@ -52,5 +52,10 @@ pub record Stays (t u : Lent) : Type 0 where
 
 -- a new table of one form stands in these rows; or none exactly if none can be begun in them
 abbrev pub BegunIn : MutBor (List Form) → MutBor (List ℕ) → Option Lent → Type 0
-BegunIn f o (Some t) = (t.used ≡ 1) × (t.forms.ghost_name ≡ f.ghost_name) × (t.options.ghost_name ≡ o.ghost_name)
+BegunIn f o (Some t) =
+    (t.used ≡ 1)
+    × (t.forms.ghost_name ≡ f.ghost_name)
+    × (t.options.ghost_name ≡ o.ghost_name)
+    × (length t.forms.now ≡ length f.now)
+    × (length t.options.now ≡ length o.now)
 BegunIn f o None = NoTable f.now o.now

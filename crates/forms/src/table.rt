@@ -30,7 +30,7 @@ impl<'a> Model for Table<'a> {
 }
 
 impl<'a> Table<'a> {
-    // A table of one form, the empty game, in these rows; None where none can be begun in them.
+    // A table of one form, the empty game, in these rows; None where none can be begun in them, and `start` then leaves them as they were.
     pub fn new(forms: &'a mut [Form], options: &'a mut [u16]) -> Option<Table<'a>>
         ensures { BegunIn forms.entry options.entry result }
     {
@@ -150,7 +150,8 @@ fn write_row(place: &mut [u16], rows: Rows)
     place[16..16 + rows.flat.len()].copy_from_slice(rows.flat);
 }
 
-// Begins a table in these rows: one form, the empty game. None where they have no room for it, or for the options of all their forms, or are too many.
+// Begins a table in these rows, with form 0, the empty game, alone. None where there is no place for it, where there are too many, or where the options
+// of them all have no room.
 pub fn start(forms: &mut [Form], options: &[u16]) -> Option<u16>
     ensures { Started forms.old options.now forms.new result }
 {

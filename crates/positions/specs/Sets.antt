@@ -65,21 +65,21 @@ pub record Ground (b : Grid) (qs : List ℕ) (us ls : List (Option ℕ)) : Type 
   pub small : (s : Side) (i : ℕ) → IfSome (set_in (row_for s us ls) i) (λ set. set < 2 ^ 16)
   pub each : (s : Side) (i : ℕ) → i < length qs → Move b qs s (slice_index qs i) (set_in (row_for s us ls) i)
 
-Rise-prop : (qs : List ℕ) → IsProp (Rise (λ q. q) qs)
-Rise-prop [] = Unit-prop
-Rise-prop (q ∷ qs) = ×_prop (AllByRecursion-prop (λ y. q < y) (λ y. le_prop) qs) (Rise-prop qs)
+rise_prop : (qs : List ℕ) → IsProp (Rise (λ q. q) qs)
+rise_prop [] = Unit-prop
+rise_prop (q ∷ qs) = ×_prop (AllByRecursion-prop (λ y. q < y) (λ y. le_prop) qs) (rise_prop qs)
 
-Move-prop : (b : Grid) (qs : List ℕ) (s : Side) (q : ℕ) (set : Option ℕ) → IsProp (Move b qs s q set)
+move_prop : (b : Grid) (qs : List ℕ) (s : Side) (q : ℕ) (set : Option ℕ) → IsProp (Move b qs s q set)
 unfolding Move
-Move-prop b qs s q set = MatchOption-prop set _ _ (Coded-set coded_bool _ _) (λ m. ×_prop (Coded-set coded_bool _ _) (Π_prop (λ j. Coded-set coded_bool _ _)))
+move_prop b qs s q set = MatchOption-prop set _ _ (Coded-set coded_bool _ _) (λ m. ×_prop (Coded-set coded_bool _ _) (Π_prop (λ j. Coded-set coded_bool _ _)))
 
 -- of all this there is one proof at most
-pub Ground-prop : (b : Grid) (qs : List ℕ) (us ls : List (Option ℕ)) → IsProp (Ground b qs us ls)
-Ground-prop b qs us ls x y = λ t. record {
+pub ground_prop : (b : Grid) (qs : List ℕ) (us ls : List (Option ℕ)) → IsProp (Ground b qs us ls)
+ground_prop b qs us ls x y = λ t. record {
   inside = Π_prop (λ q. Π_prop (λ h. Coded-set coded_bool _ _)) x.inside y.inside t;
-  rising = Rise-prop qs x.rising y.rising t;
+  rising = rise_prop qs x.rising y.rising t;
   few = le_prop x.few y.few t;
   places = Π_prop (λ s. Coded-set coded_ℕ _ _) x.places y.places t;
   small = Π_prop (λ s. Π_prop (λ i. MatchOption-prop (set_in (row_for s us ls) i) _ _ Unit-prop (λ m. le_prop))) x.small y.small t;
-  each = Π_prop (λ s. Π_prop (λ i. Π_prop (λ h. Move-prop b qs s (slice_index qs i) (set_in (row_for s us ls) i)))) x.each y.each t;
+  each = Π_prop (λ s. Π_prop (λ i. Π_prop (λ h. move_prop b qs s (slice_index qs i) (set_in (row_for s us ls) i)))) x.each y.each t;
 }

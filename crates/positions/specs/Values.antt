@@ -12,6 +12,7 @@ use Rattle.positions.specs.declared.room.RoomMoves.{RoomMoves}
 abbrev pub room_squares : RoomMoves → List ℕ
 room_squares r = squares_of r.room
 
+-- the sets of its moves
 abbrev pub moves_of : RoomMoves → Moves
 moves_of r = record { upright = r.upright; flat = r.flat }
 

@@ -28,6 +28,7 @@ pub fn form(
     ensures answer { Formed room.now set table.old positions.old table.new positions.new result }
     ensures stays { Stays table.old table.new }
 {
+    // a table always holds form 0
     prove!(table.used > 0);
     if let Some(known) = recall(positions, set) {
         return Ok(known);
@@ -43,7 +44,7 @@ pub fn form(
     Ok(found)
 }
 
-// The form that is noted of a set.
+// The form that is noted of a set, or None where none is.
 fn recall(positions: &[u32], set: u16) -> Option<u16>
     requires long { set < length positions.now }
     requires fits { slice_index positions.now set ≤ 65536 }
@@ -72,6 +73,7 @@ fn option_row(
     ensures answer { RowFormed room.now set (side_of side) table.old positions.old table.new positions.new result }
     ensures stays { Stays table.old table.new }
 {
+    // a table always holds form 0
     prove!(table.used > 0);
     let mut row = Vec::new(heap);
     for i in 0..room.len() {

@@ -1,7 +1,7 @@
 // A room of a board, with its moves as sets of its squares: bit i of a set stands for square number i of the room.
 ghost use Rattle.board.specs.Values.{grid_of};
 ghost use Rattle.rooms.specs.Values.{squares_of};
-ghost use Rattle.positions.specs.Sets.{Ground, Ground-prop};
+ghost use Rattle.positions.specs.Sets.{Ground, ground_prop};
 
 use board::board::Board;
 use rooms::room::Room;
@@ -13,5 +13,5 @@ pub struct RoomMoves {
     // for each side and each square of the room, the squares that the move there covers, or None where no such move lies in the room
     pub(crate) upright: [Option<u16>; 16],
     pub(crate) flat: [Option<u16>; 16],
-    pub ghost ground: { Ground (grid_of board) (squares_of room) upright flat } by { Ground-prop (grid_of board) (squares_of room) upright flat },
+    pub ghost ground: { Ground (grid_of board) (squares_of room) upright flat } by { ground_prop (grid_of board) (squares_of room) upright flat },
 }

@@ -26,7 +26,7 @@ impl<T: Copy, const N: usize> Copy for Few<T, N> {}
 impl<T: Copy, const N: usize> Few<T, N> {
     ghost use Rattle.rooms.specs.Few.{items_of};
 
-    // None yet: each place holds a blank.
+    // An empty list: each place holds a blank.
     pub fn new(blank: T) -> Few<T, N>
         ensures { items_of result ≡ [] }
     {

@@ -13,9 +13,10 @@ use board::board::Board;
 use board::refusal::Refusal;
 use board::ways::WAYS;
 
-// The squares that a room has at least, and the rooms that a board has at most that is judged.
+// The squares that a room has at least.
 const FEWEST: usize = 2;
 
+// The rooms that a board has at most that is judged.
 const MOST: usize = 32;
 
 // The free neighbours of a square that were not seen before are marked and join the squares found; None where there is no place left.

@@ -9,7 +9,7 @@ use board::board::Board;
 use board::side::Side;
 
 // The first place in reading order after which the other side has lost, or None where the side to move has lost.
-// Every way to play on is tried, so the time doubles with each few free squares: at 20 of them it is a matter of seconds.
+// Every way to play on is tried, so the time doubles with each few free squares; at 20 of them it took well under a second on the boards that were tried.
 pub fn first_win(board: &Board, side: Side) -> Option<u16>
     ensures { Says (side_of side) (grid_of board.now) (answer_of result) }
 {

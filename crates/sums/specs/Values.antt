@@ -15,7 +15,7 @@ use Rattle.sums.specs.Pairing.{SumsAnswer}
 use Rattle.sums.specs.Rows.{JoinAnswer}
 use Rattle.sums.specs.Counting.{RoomsAnswer}
 
--- the table is one, and what is remembered of pairs is right
+-- what is remembered of pairs is right, in a table
 pub record AreRight (s : Sums) : Type 0 where
   pub table : IsTable s.table
   pub pairs : HoldsRight s.table.forms.now s.table.options.now s.table.used s.pairs.now
@@ -26,6 +26,7 @@ pub record SameSums (s t : Sums) : Type 0 where
   pub pairs : t.pairs.ghost_name ≡ s.pairs.ghost_name
   pub slots : length t.pairs.now ≡ length s.pairs.now
 
+-- so do all rows of the memory
 pub record SameMemory (m k : Memory) : Type 0 where
   pub sums : SameSums m.sums k.sums
   pub positions : k.positions.ghost_name ≡ m.positions.ghost_name

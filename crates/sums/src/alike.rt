@@ -3,7 +3,7 @@ ghost use Rattle.std.specs.Prelude.{◌≡◌, ◌==◌, position};
 ghost use Rattle.sums.specs.Likeness.{FirstSame, AlikeInPlay};
 
 // Where a form first stands in a row of forms.
-fn place_of(forms: &[u16], own: u16) -> Option<usize>
+fn first_place(forms: &[u16], own: u16) -> Option<usize>
     ensures { result ≡ position (λ form. form == own) forms.now }
 {
     forms.iter().position(|form| *form == own)
@@ -15,5 +15,5 @@ pub fn alike(owns: &[u16], i: usize) -> Option<usize>
     ensures play { AlikeInPlay owns.now i result }
 {
     let own = owns.get(i)?;
-    place_of(&owns[..i], *own)
+    first_place(&owns[..i], *own)
 }

@@ -19,7 +19,7 @@ pub struct RowForms {
 
 impl Memory<'_> {
     // The form of a board: that of its rooms beside each other. On the way it finds all forms that count for the board. Full where there is no place
-    // for them all in the table, whose length is the limit; from a table of one form that is so exactly if the board's count is above the limit.
+    // for them all in the table, whose length is the limit; from a table of one form, only where the board's count is above the limit.
     pub fn row_of_rooms(
         &mut self,
         heap: Global,

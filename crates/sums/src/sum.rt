@@ -49,6 +49,7 @@ impl<'a> Sums<'a> {
         ensures answer { SumOf self.old x y self.new result }
         ensures same { SameSums self.old self.new }
     {
+        // a name of its own, so that the look-up is seen to leave the row as it is
         let pairs = &mut *self.pairs;
         if let Some(form) = recall(pairs, x, y) {
             return Ok(form);

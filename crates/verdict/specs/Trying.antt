@@ -19,7 +19,7 @@ use Rattle.verdict.specs.declared.worth.Failure.TheVariants.{Count, NoMemory}
 unfoldable pub NotLarge : Grid → Type 0
 NotLarge b = (p : ℕ) → Larger 16 b p → ⊥
 
--- nor has any room of the board, seen with its rooms
+-- the board has rooms, and none of more than 16 squares
 abbrev pub HasSmallRooms : Grid → Type 0
 HasSmallRooms b = (rs : List (List ℕ)) × SmallRooms b rs
 

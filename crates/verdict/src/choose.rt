@@ -13,7 +13,7 @@ use rooms::list::Rooms;
 use std::alloc::Global;
 use sums::memory::Memory;
 
-// The first place in reading order after which the other side has lost, or None where the side to move has lost. Count exactly if the board, or one
+// The first place in reading order after which the other side has lost, or None where the side to move has lost. Count only where the board, or one
 // that a plank of either side makes of it, is past the limits.
 pub fn choose(
     heap: Global,

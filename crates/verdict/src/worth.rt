@@ -19,7 +19,7 @@ pub enum Failure {
     NoMemory,
 }
 
-// A refusal from a table of one form: that it is full is then the board's own doing.
+// What refuses a board for which the table was begun anew: that it is full is then the board's own doing.
 impl From<Refusal> for Failure {
     ghost use Rattle.verdict.specs.Worths.{failure_of};
 

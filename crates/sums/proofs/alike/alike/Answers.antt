@@ -7,5 +7,5 @@ returns-in_err-own-clause-play c = alike_in_play c.args.owns.now c.args.i _ (sea
 
 pub returns : goal.returns
 returns c =
-    let first = first_same c.args.owns.now c.args.i c.in_ok-own.own.now c.place_of.result (search rules) (search rules) c.place_of.ensures in
+    let first = first_same c.args.owns.now c.args.i c.in_ok-own.own.now c.first_place.result (search rules) (search rules) c.first_place.ensures in
     record { first = first; play = alike_in_play c.args.owns.now c.args.i _ first }
