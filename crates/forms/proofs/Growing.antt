@@ -7,7 +7,7 @@ use Rattle.games.specs.Game.{Side, game}
 use Rattle.games.specs.Canonical.{Canonical}
 use Rattle.forms.specs.declared.rows.Form.{Form}
 use Rattle.forms.specs.Held.{Lent}
-use Rattle.forms.specs.Values.{SameRows, Stays, in_use}
+use Rattle.forms.specs.Values.{IsTable, SameRows, Stays, in_use}
 use Rattle.forms.specs.Rows.{blank, many, row_of, row_for, Rising}
 use Rattle.forms.specs.Meaning.{listed, meant, meaning, given}
 use Rattle.forms.specs.Soundness.{Sound}
@@ -83,8 +83,8 @@ pub same_on : {t u v : Lent} → SameRows t u → SameRows u v → SameRows t v
 same_on a b = record { forms = b.forms ∙ a.forms; options = b.options ∙ a.options; places = b.places ∙ a.places; space = b.space ∙ a.space }
 
 -- and keeps what was in use
-pub stays_same : (t : Lent) → Stays t t
-stays_same t = record { rows = record { forms = refl; options = refl; places = refl; space = refl }; kept = kept_refl (in_use t) t.options.now }
+pub stays_same : (t : Lent) → IsTable t → Stays t t
+stays_same t table = record { before = table; after = table; rows = record { forms = refl; options = refl; places = refl; space = refl }; kept = kept_refl (in_use t) t.options.now }
 
 pub stays_on : {t u v : Lent} → Stays t u → Stays u v → Stays t v
-stays_on {t} {u} {v} a b = record { rows = same_on a.rows b.rows; kept = kept_trans (in_use t) t.options.now (in_use u) u.options.now (in_use v) v.options.now a.kept b.kept }
+stays_on {t} {u} {v} a b = record { before = a.before; after = b.after; rows = same_on a.rows b.rows; kept = kept_trans (in_use t) t.options.now (in_use u) u.options.now (in_use v) v.options.now a.kept b.kept }

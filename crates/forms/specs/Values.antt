@@ -45,8 +45,10 @@ pub record SameRows (t u : Lent) : Type 0 where
   pub places : length u.forms.now ≡ length t.forms.now
   pub space : length u.options.now ≡ length t.options.now
 
--- so it does, and what was in use is as it was
+-- so it does, it was and is a table, and what was in use is as it was
 pub record Stays (t u : Lent) : Type 0 where
+  pub before : IsTable t
+  pub after : IsTable u
   pub rows : SameRows t u
   pub kept : Kept (in_use t) t.options.now (in_use u) u.options.now
 

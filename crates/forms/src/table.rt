@@ -75,7 +75,6 @@ impl<'a> Table<'a> {
         requires fresh { Fresh (in_use self.old) self.old.options.now rows.upright.now rows.flat.now }
         ensures number { result ≡ self.old.used }
         ensures used { self.new.used ≡ self.old.used + 1 }
-        ensures table { IsTable self.new }
         ensures row { IsRow (in_use self.new) self.new.options.now rows.entry.upright.now rows.entry.flat.now result }
         ensures stays { Stays self.old self.new }
     {

@@ -15,11 +15,12 @@ use Rattle.canonical.specs.Reducing.{Inserted}
 use Rattle.canonical.specs.declared.canonical.Refusal.{Refusal}
 use Rattle.positions.specs.Growing.{Grows}
 use Rattle.positions.proofs.Growth.{grows_as, grows_far, grows_meaning, grows_on}
-use Rattle.forms.specs.Values.{in_use, game_in}
+use Rattle.forms.specs.Held.{Lent}
+use Rattle.forms.specs.Values.{IsTable, in_use, game_in}
 use Rattle.forms.proofs.Growing.{same_on}
-use Rattle.sums.specs.declared.sum.Sums.{Sums}
+use Rattle.sums.specs.Held.{Adding}
 use Rattle.sums.specs.Values.{SameSums}
-use Rattle.sums.specs.Sums.{Adds, Stopped, SumAnswer, SummedUp}
+use Rattle.sums.specs.Sums.{Adds, Stopped, SumAnswer, SummedUp, HoldsRight}
 use Rattle.sums.specs.Steps.{RowKnown, Grew, MovesIn}
 use Rattle.sums.proofs.Wider.{between_one, stopped_on, as_before, stopped_as}
 
@@ -140,14 +141,23 @@ module _ (fs : List Form) (os : List ℕ) (n : ℕ) (s : Side) (x y : ℕ) (tabl
   }
 
 -- the moves of a side at the first options of x have been made beside y
-abbrev pub Stepping : Side → ℕ → ℕ → Sums → List ℕ → ℕ → Sums → List ℕ → Type 0
+abbrev pub Stepping : Side → ℕ → ℕ → Adding → List ℕ → ℕ → Adding → List ℕ → Type 0
 Stepping side x y s row i t new =
     Grew (Between (game_in s.table x) (game_in s.table y)) s.table.forms.now s.table.options.now s.table.used t.table.forms.now t.table.options.now t.table.used t.pairs.now
     × Gathered (option_of (in_use s.table) s.table.options.now side x) i (game_in s.table y) t.table.forms.now t.table.options.now t.table.used row new
 
-pub sums_same : (s : Sums) → SameSums s s
+pub sums_same : (s : Adding) → SameSums s s
 sums_same s = record { table = record { forms = refl; options = refl; places = refl; space = refl }; pairs = refl; slots = refl }
 
 -- sums that stay in their rows, and stay in them
-pub sums_same_on : {s t u : Sums} → SameSums s t → SameSums t u → SameSums s u
+pub sums_same_on : {s t u : Adding} → SameSums s t → SameSums t u → SameSums s u
 sums_same_on a b = record { table = same_on a.table b.table; pairs = b.pairs ∙ a.pairs; slots = b.slots ∙ a.slots }
+
+-- what the types keep: the lent rows are a table, and what is remembered of pairs is right in it
+pub record AreRight (s : Adding) : Type 0 where
+  pub table : IsTable s.table
+  pub pairs : HoldsRight s.table.forms.now s.table.options.now s.table.used s.pairs.now
+
+-- it holds of a value whose parts were seen
+pub right_of : {s : Adding} {t : Lent} {u : Adding} → IsTable t → t ≡ s.table → HoldsRight s.table.forms.now s.table.options.now s.table.used s.pairs.now → s ≡ u → AreRight u
+right_of {s} {t} table view holds same = subst AreRight same (record { table = subst IsTable view table; pairs = holds })

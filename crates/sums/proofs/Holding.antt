@@ -8,8 +8,10 @@ use Rattle.games.proofs.Sums.{sum_turns}
 use Rattle.forms.specs.declared.rows.Form.{Form}
 use Rattle.forms.specs.Meaning.{meaning}
 use Rattle.forms.specs.Links.{Table}
-use Rattle.positions.specs.Growing.{Grows}
-use Rattle.positions.proofs.Growth.{grows_far, grows_meaning}
+use Rattle.forms.specs.Held.{Lent}
+use Rattle.forms.specs.Values.{Stays}
+use Rattle.forms.specs.Growth.{Kept}
+use Rattle.forms.proofs.Chains.{use_length}
 use Rattle.sums.specs.Sums.{Adds, HoldsRight}
 use Rattle.sums.specs.Pairs.{key_of, Holds, SamePair, OnlyMore}
 
@@ -54,22 +56,27 @@ written ps x y k i n long p q e a b j h =
 pub holds_none : (fs : List Form) (os : List ℕ) (n : ℕ) (ps : List ℕ) → ((i : ℕ) → get_or ps i 0 ≡ 0) → HoldsRight fs os n ps
 holds_none fs os n ps zeros = record { right = λ x y k h. let z = zeros (2 * h.slot) in let e = h.key in absurd (omega arith) }
 
--- what is remembered stays right while the table grows
-pub holds_kept : (B : Game → Type 0) (fs : List Form) (os : List ℕ) (n : ℕ) (gs : List Form) (qs : List ℕ) (u : ℕ) (ps : List ℕ) →
-    Table fs os n → Grows B fs os n gs qs u → HoldsRight fs os n ps → HoldsRight gs qs u ps
-holds_kept B fs os n gs qs u ps table grows held = record {
+-- what is remembered stays right while what was in use is kept
+pub holds_kept : (fs : List Form) (os : List ℕ) (n : ℕ) (gs : List Form) (qs : List ℕ) (u : ℕ) (ps : List ℕ) →
+    Table fs os n → Table gs qs u → Kept (take n fs) os (take u gs) qs → HoldsRight fs os n ps → HoldsRight gs qs u ps
+holds_kept fs os n gs qs u ps before after kept held = record {
   right = λ x y k h.
       let old = held.right x y k h in
-      let far = grows_far B fs os n gs qs u table grows in
+      let far = kept.longer in
+      let long = use_length fs os n before in
+      let longer = use_length gs qs u after in
       let p = old.0 in let q = old.1 in let r = old.2 in (
         omega arith,
         omega arith,
         omega arith,
-        subst (λ f. Adds (meaning (take u gs) qs x) (meaning (take u gs) qs y) f) (sym (grows_meaning B fs os n gs qs u table grows k r))
-            (subst (λ f. Adds (meaning (take u gs) qs x) f (meaning (take n fs) os k)) (sym (grows_meaning B fs os n gs qs u table grows y q))
-            (subst (λ f. Adds f (meaning (take n fs) os y) (meaning (take n fs) os k)) (sym (grows_meaning B fs os n gs qs u table grows x p)) old.3)),
+        subst (λ f. Adds (meaning (take u gs) qs x) (meaning (take u gs) qs y) f) (sym (kept.games k (omega arith)))
+            (subst (λ f. Adds (meaning (take u gs) qs x) f (meaning (take n fs) os k)) (sym (kept.games y (omega arith)))
+            (subst (λ f. Adds f (meaning (take n fs) os y) (meaning (take n fs) os k)) (sym (kept.games x (omega arith))) old.3)),
       );
 }
+
+pub holds_stays : {t u : Lent} (ps : List ℕ) → Stays t u → HoldsRight t.forms.now t.options.now t.used ps → HoldsRight u.forms.now u.options.now u.used ps
+holds_stays {t} {u} ps stays = holds_kept t.forms.now t.options.now t.used u.forms.now u.options.now u.used ps stays.before stays.after stays.kept
 
 pub adds_turned : {g h f : Game} → Adds g h f → Adds h g f
 unfolding SumTurns

@@ -1,7 +1,7 @@
 -- One round of the walk along the rooms of a board.
 use Rattle.sums.specs.Sums.{Stopped, HoldsRight}
 use Rattle.sums.specs.Values.{SameMemory}
-use Rattle.sums.specs.declared.sum.Sums.{Sums}
+use Rattle.sums.specs.Held.{Adding}
 use Rattle.sums.specs.declared.memory.Memory.{Memory}
 use Rattle.std.proofs.Common.{◌≡◌, ℕ, ◌+◌, ◌<◌, List, [], ◌∷◌, ◌++◌, map, length, get_or, take, Err, sym, refl, ap, ◌∙◌, subst, arith}
 use Rattle.std.proofs.lemmas.List.{take_more, length-map, get_or-map}
@@ -51,7 +51,7 @@ module _ (b : Grid) (rs : List (List ℕ)) (i : ℕ) (low : i < length rs) (fs :
       (row_stopped b (take i rs) fs os n gs ps sum owns u before q hs qs e (subst (λ d. Stopped (Between T (room_game d q)) gs ps u hs qs e) board s))))
 
 -- the rooms so far stand in a row, and what is remembered of pairs is right
-abbrev pub RowSoFar : Grid → List (List ℕ) → Sums → Sums → ℕ → List ℕ → Type 0
+abbrev pub RowSoFar : Grid → List (List ℕ) → Adding → Adding → ℕ → List ℕ → Type 0
 RowSoFar b rs s t sum owns =
     InRow b rs s.table.forms.now s.table.options.now s.table.used t.table.forms.now t.table.options.now sum owns t.table.used
     × HoldsRight t.table.forms.now t.table.options.now t.table.used t.pairs.now

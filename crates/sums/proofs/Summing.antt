@@ -23,7 +23,7 @@ use Rattle.canonical.specs.declared.canonical.Refusal.TheVariants.{Full, Wide, N
 use Rattle.positions.specs.Growing.{Grows, Overfull}
 use Rattle.positions.proofs.Growth.{grows_none, grows_far, grows_meaning, grows_on}
 use Rattle.forms.specs.Values.{game_in}
-use Rattle.sums.specs.declared.sum.Sums.{Sums}
+use Rattle.sums.specs.Held.{Adding}
 use Rattle.sums.specs.Pairs.{OnlyMore}
 use Rattle.sums.specs.Sums.{Adds, Stopped, SumAnswer}
 use Rattle.sums.specs.Steps.{Grew, Moved, MovesIn, SumRow, StepAnswer}
@@ -82,7 +82,7 @@ module _ (fs : List Form) (os : List ℕ) (n : ℕ) (s : Side) (x y : ℕ) (tabl
       (as_before B fs os n gs qs u (λ g h. Stopped (Between g h) gs qs u hs ws e) y x table grew.grows second first other))
 
 -- the rows of what both players' moves make of the sum of forms x and y, found while a table grew
-abbrev pub BothRows : ℕ → ℕ → Sums → Sums → List ℕ → List ℕ → Type 0
+abbrev pub BothRows : ℕ → ℕ → Adding → Adding → List ℕ → List ℕ → Type 0
 BothRows x y s t us ls =
     Grew (Between (game_in s.table x) (game_in s.table y)) s.table.forms.now s.table.options.now s.table.used t.table.forms.now t.table.options.now t.table.used t.pairs.now
     × SumRow true (game_in s.table x) (game_in s.table y) t.table.forms.now t.table.options.now t.table.used us
@@ -191,7 +191,7 @@ summed fs os n x y table first second gs qs u rs grew hs ws v ts a got only = (
   grown,
   got.1,
   got.2,
-  holds_more hs ws v rs (holds_kept (Between (meaning (take n fs) os x) (meaning (take n fs) os y)) gs qs u hs ws v rs grew.grows.table got.0 grew.holds) x y a ts only (let f = far in omega arith) (let f = far in omega arith) got.1
+  holds_more hs ws v rs (holds_kept gs qs u hs ws v rs grew.grows.table got.0.table got.0.kept grew.holds) x y a ts only (let f = far in omega arith) (let f = far in omega arith) got.1
       (subst (λ k. Adds (meaning (take v hs) ws x) k (meaning (take v hs) ws a)) (sym (grows_meaning (Between (meaning (take n fs) os x) (meaning (take n fs) os y)) fs os n hs ws v table grown y second))
       (subst (λ k. Adds k (meaning (take n fs) os y) (meaning (take v hs) ws a)) (sym (grows_meaning (Between (meaning (take n fs) os x) (meaning (take n fs) os y)) fs os n hs ws v table grown x first)) got.2)),
 )

@@ -7,4 +7,5 @@ pub mod Pairing
 pub mod Rows
 pub mod Counting
 pub mod Likeness
+pub mod Held
 pub mod Values

@@ -1,7 +1,7 @@
 // The rooms of a board beside each other.
 ghost use Rattle.board.specs.Values.{grid_of};
 ghost use Rattle.rooms.specs.Values.{rooms_of, SmallRooms};
-ghost use Rattle.sums.specs.Values.{AreRight, SameMemory, RoomsOf};
+ghost use Rattle.sums.specs.Values.{SameMemory, RoomsOf};
 
 use crate::memory::Memory;
 use board::board::Board;
@@ -26,11 +26,12 @@ impl Memory<'_> {
         board: &Board,
         rooms: &Rooms,
     ) -> Result<RowForms, Refusal>
-        requires rooms { SmallRooms (grid_of board.now) (rooms_of rooms.now) }
-        requires right { AreRight self.old.sums }
+        requires { SmallRooms (grid_of board.now) (rooms_of rooms.now) }
         ensures answer { RoomsOf (grid_of board.now) (rooms_of rooms.now) self.old.sums self.new.sums result }
         ensures same { SameMemory self.old self.new }
     {
+        // a table always holds form 0
+        prove!(self.sums.table.used > 0);
         let mut sum = 0;
         let mut owns = Vec::new(heap);
         let held = rooms.as_slice();

@@ -5,10 +5,8 @@ use Rattle.board.specs.Grid.{Grid, Side, other}
 use Rattle.board.specs.Moves.{may, laid}
 use Rattle.board.specs.Rules.{Wins, Loses}
 use Rattle.forms.specs.declared.rows.Form.{Form}
-use Rattle.forms.specs.Links.{Table}
 use Rattle.search.proofs.Turns.{unlawful, answered, found}
-use Rattle.sums.specs.Sums.{HoldsRight}
-use Rattle.sums.specs.declared.sum.Sums.{Sums}
+use Rattle.sums.specs.Held.{Adding}
 use Rattle.verdict.specs.Limits.{Over}
 use Rattle.verdict.specs.Worths.{Worth}
 use Rattle.verdict.specs.Trying.{FirstGood, FoundWorth, Tried, TriedAnswer}
@@ -16,17 +14,16 @@ use Rattle.verdict.specs.declared.worth.Failure.{Failure}
 use Rattle.verdict.specs.declared.worth.Failure.TheVariants.{Count, NoMemory}
 
 module _ (s : Side) (b : Grid) where
-  pub tried_none : (fs : List Form) (os qs : List ℕ) (u : ℕ) → Table fs os u → HoldsRight fs os u qs → Tried s b 0 fs fs os qs None u
+  pub tried_none : (fs : List Form) → Tried s b 0 fs fs None
   unfolding FirstGood
-  tried_none fs os qs u table pairs =
-      record { table = table; long = refl; pairs = pairs; within = λ p less. absurd (omega arith); first = λ p less. absurd (omega arith) }
+  tried_none fs = record { long = refl; within = λ p less. absurd (omega arith); first = λ p less. absurd (omega arith) }
 
   -- all places are those of the board
   pub tried_all :
-      (k n : ℕ) → n ≤ k → (fs gs : List Form) (ps qs : List ℕ) (x : Option ℕ) (u : ℕ) → Tried s b k fs gs ps qs x u → Tried s b n fs gs ps qs x u
+      (k n : ℕ) → n ≤ k → (fs gs : List Form) (x : Option ℕ) → Tried s b k fs gs x → Tried s b n fs gs x
   unfolding FirstGood
-  tried_all k n less fs gs ps qs x u t =
-      record { table = t.table; long = t.long; pairs = t.pairs; within = λ p h. t.within p (omega arith); first = fewer x t.first }
+  tried_all k n less fs gs x t =
+      record { long = t.long; within = λ p h. t.within p (omega arith); first = fewer x t.first }
     where
       fewer : (x : Option ℕ) → FirstGood s b k x → FirstGood s b n x
       fewer (Some p) f = f
@@ -54,14 +51,12 @@ module _ (s : Side) (b : Grid) where
     first_unlawful (Some p) e f = f
     first_unlawful None e f = unlawful s b k f e
 
-    module _ (fs gs : List Form) (ps qs : List ℕ) (x : Option ℕ) (u : ℕ) (t : Tried s b k fs gs ps qs x u) where
+    module _ (fs gs : List Form) (x : Option ℕ) (t : Tried s b k fs gs x) where
       -- no plank may be laid here
-      pub tried_unlawful : may b s k ≡ false → Tried s b (k + 1) fs gs ps qs x u
+      pub tried_unlawful : may b s k ≡ false → Tried s b (k + 1) fs gs x
       tried_unlawful e =
           record {
-            table = t.table;
             long = t.long;
-            pairs = t.pairs;
             within = below_more (λ p. may b s p ≡ true → Over (length fs) (laid b s p) → ⊥) k t.within (λ m. absurd (both_ways (may b s k) e m));
             first = first_unlawful x e t.first;
           }
@@ -70,12 +65,10 @@ module _ (s : Side) (b : Grid) where
         -- the board after the plank has a worth
         pub tried_more :
             (rooms : List (List ℕ)) (sum : ℕ) (owns : List ℕ) (v : ℕ) → Worth c rooms gs hs os rs sum owns v → (y : Option ℕ) → FirstGood s b (k + 1) y →
-            Tried s b (k + 1) fs hs os rs y v
+            Tried s b (k + 1) fs hs y
         tried_more rooms sum owns v w y f =
             record {
-              table = w.table;
               long = let l = w.long in let m = t.long in omega arith;
-              pairs = w.pairs;
               within =
                   below_more (λ p. may b s p ≡ true → Over (length fs) (laid b s p) → ⊥) k t.within
                   (λ _ o. w.within (subst (Over (length gs)) (sym is) (subst (λ n. Over n (laid b s k)) (sym t.long) o)));
@@ -90,7 +83,7 @@ module _ (s : Side) (b : Grid) where
   wins_there k o c e f w = subst (λ z. Wins z (laid b s k)) e (subst (Wins o) f w)
 
 -- the board after the plank at k has no worth
-pub tried_refused : (s : Side) (b : Grid) (k : ℕ) (m l n : Sums) (x : Option ℕ) → Tried s b k m.table.forms.now l.table.forms.now l.table.options.now l.pairs.now x l.table.used →
+pub tried_refused : (s : Side) (b : Grid) (k : ℕ) (m l n : Adding) (x : Option ℕ) → Tried s b k m.table.forms.now l.table.forms.now x →
     (c : Grid) → c ≡ laid b s k → (e : Failure) → may b s k ≡ true → FoundWorth c l n (Err e) → TriedAnswer s b m n (Err e)
 tried_refused s b k m l n x t c is Count can o = (k, can, subst (Over (length m.table.forms.now)) is (subst (λ z. Over z c) t.long o.1))
 tried_refused s b k m l n x t c is NoMemory can o = tt

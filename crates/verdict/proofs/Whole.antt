@@ -5,7 +5,7 @@ use Rattle.board.specs.Moves.{may, laid}
 use Rattle.board.specs.Rules.{Says}
 use Rattle.board.proofs.Outcomes.{may_below}
 use Rattle.forms.specs.declared.rows.Form.{Form}
-use Rattle.sums.specs.declared.sum.Sums.{Sums}
+use Rattle.sums.specs.Held.{Adding}
 use Rattle.search.specs.Answers.{answer_of}
 use Rattle.search.proofs.Turns.{none_found}
 use Rattle.verdict.specs.Limits.{Over, IsTooMany}
@@ -28,13 +28,13 @@ module _ (s : Side) (b : Grid) where
   says_first None f = none_found s b (length b.cells) f (omega arith)
 
   -- the board itself is refused
-  pub whole_refused : (rs : List (List ℕ)) (m k : Sums) (e : Failure) → WorthAnswer b rs m k (Err e) → Chosen s b (length m.table.forms.now) (Err e)
+  pub whole_refused : (rs : List (List ℕ)) (m k : Adding) (e : Failure) → WorthAnswer b rs m k (Err e) → Chosen s b (length m.table.forms.now) (Err e)
   unfolding IsTooMany
   whole_refused rs m k Count o = inl o
   whole_refused rs m k NoMemory o = tt
 
   -- a board after a plank of side t is
-  pub plank_refused : (t : Side) (n : ℕ) (m k : Sums) → length m.table.forms.now ≡ n → (e : Failure) → TriedAnswer t b m k (Err e) → Chosen s b n (Err e)
+  pub plank_refused : (t : Side) (n : ℕ) (m k : Adding) → length m.table.forms.now ≡ n → (e : Failure) → TriedAnswer t b m k (Err e) → Chosen s b n (Err e)
   unfolding IsTooMany
   plank_refused t n m k same Count o = inr (t, o.0, o.1, subst (λ z. Over z (laid b t o.0)) same o.2)
   plank_refused t n m k same NoMemory o = tt
@@ -46,24 +46,24 @@ module _ (s : Side) (b : Grid) where
   none_over n whole planks o = ⊎_elim whole (λ x. planks x.0 x.1 x.2 x.3) o
 
   no_plank :
-      (t : Side) (n : ℕ) (fs gs : List Form) (ps qs : List ℕ) (x : Option ℕ) (u : ℕ) → length fs ≡ n → Tried t b (length b.cells) fs gs ps qs x u →
+      (t : Side) (n : ℕ) (fs gs : List Form) (x : Option ℕ) → length fs ≡ n → Tried t b (length b.cells) fs gs x →
       (p : ℕ) → may b t p ≡ true → Over n (laid b t p) → ⊥
-  no_plank t n fs gs ps qs x u same tried p m o = tried.within p (may_below b t p m) m (subst (λ k. Over k (laid b t p)) (sym same) o)
+  no_plank t n fs gs x same tried p m o = tried.within p (may_below b t p m) m (subst (λ k. Over k (laid b t p)) (sym same) o)
 
   pub chosen :
       (n : ℕ) → (Over n b → ⊥) → (o : Side) → o ≡ other s →
-      (fs gs : List Form) (ps qs : List ℕ) (x : Option ℕ) (u : ℕ) → length fs ≡ n → Tried o b (length b.cells) fs gs ps qs x u →
-      (hs : List Form) (os rs : List ℕ) (y : Option ℕ) (v : ℕ) → Tried s b (length b.cells) gs hs os rs y v → Chosen s b n (Ok y)
-  chosen n whole o is fs gs ps qs x u same theirs hs os rs y v own = (
+      (fs gs : List Form) (x : Option ℕ) → length fs ≡ n → Tried o b (length b.cells) fs gs x →
+      (hs : List Form) (y : Option ℕ) → Tried s b (length b.cells) gs hs y → Chosen s b n (Ok y)
+  chosen n whole o is fs gs x same theirs hs y own = (
     says_first y own.first,
     none_over n whole
         (both_sides (λ t. (p : ℕ) → may b t p ≡ true → Over n (laid b t p) → ⊥) s
-        (no_plank s n gs hs os rs y v (theirs.long ∙ same) own)
-        (subst (λ t. (p : ℕ) → may b t p ≡ true → Over n (laid b t p) → ⊥) is (no_plank o n fs gs ps qs x u same theirs))),
+        (no_plank s n gs hs y (theirs.long ∙ same) own)
+        (subst (λ t. (p : ℕ) → may b t p ≡ true → Over n (laid b t p) → ⊥) is (no_plank o n fs gs x same theirs))),
   )
 
   -- the last answer is the whole one
-  pub last_chosen : (n : ℕ) → (Over n b → ⊥) → (o : Side) → o ≡ other s → (m k : Sums) (x : Option ℕ) → length m.table.forms.now ≡ n → TriedAnswer o b m k (Ok x) →
-      (l : Sums) (r : Result (Option ℕ) Failure) → TriedAnswer s b k l r → Chosen s b n r
-  last_chosen n whole o is m k x same theirs l (Ok y) own = chosen n whole o is _ _ _ _ x _ same theirs _ _ _ y _ own
+  pub last_chosen : (n : ℕ) → (Over n b → ⊥) → (o : Side) → o ≡ other s → (m k : Adding) (x : Option ℕ) → length m.table.forms.now ≡ n → TriedAnswer o b m k (Ok x) →
+      (l : Adding) (r : Result (Option ℕ) Failure) → TriedAnswer s b k l r → Chosen s b n r
+  last_chosen n whole o is m k x same theirs l (Ok y) own = chosen n whole o is _ _ x same theirs _ y own
   last_chosen n whole o is m k x same theirs l (Err e) own = plank_refused s n k l (theirs.long ∙ same) e own

@@ -12,7 +12,7 @@ use Rattle.canonical.specs.declared.canonical.Refusal.{Refusal}
 use Rattle.canonical.specs.declared.canonical.Refusal.TheVariants.{Full, Wide as TooWide, NoMemory}
 use Rattle.sums.specs.Counting.{RowIsFormed, RoomsAnswer}
 use Rattle.sums.specs.Sums.{HoldsRight}
-use Rattle.sums.specs.declared.sum.Sums.{Sums}
+use Rattle.sums.specs.Held.{Adding}
 use Rattle.verdict.specs.Limits.{Over}
 use Rattle.verdict.specs.Worths.{Worth, WorthAnswer, failure_of}
 
@@ -58,7 +58,7 @@ module _ (b : Grid) (rs : List (List ℕ)) (rooms : Rooms b rs) where
 
     -- it was not, though the table was new
     pub worth_refused :
-        (m k : Sums) → length fs ≡ length m.table.forms.now → n ≡ 1 → (u : ℕ) (qs : List ℕ) (e : Refusal) → RoomsAnswer b rs fs os n gs ps u qs (Err e) →
+        (m k : Adding) → length fs ≡ length m.table.forms.now → n ≡ 1 → (u : ℕ) (qs : List ℕ) (e : Refusal) → RoomsAnswer b rs fs os n gs ps u qs (Err e) →
         WorthAnswer b rs m k (Err (failure_of e))
     worth_refused m k same one u qs Full x = over_count (length m.table.forms.now) (λ c h. let above = x.above one c h in omega arith)
     worth_refused m k same one u qs TooWide x = over_wide (length m.table.forms.now) x

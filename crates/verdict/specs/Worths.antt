@@ -12,7 +12,7 @@ use Rattle.canonical.specs.declared.canonical.Refusal.TheVariants.{Full, Wide, N
 use Rattle.sums.specs.Counting.{Owns}
 use Rattle.sums.specs.Sums.{HoldsRight}
 use Rattle.sums.specs.declared.row.RowForms.{RowForms}
-use Rattle.sums.specs.declared.sum.Sums.{Sums}
+use Rattle.sums.specs.Held.{Adding}
 use Rattle.verdict.specs.Limits.{Over}
 use Rattle.verdict.specs.declared.worth.Failure.{Failure}
 use Rattle.verdict.specs.declared.worth.Failure.TheVariants.{Count, NoMemory}
@@ -32,7 +32,7 @@ pub record Worth (b : Grid) (rs : List (List ℕ)) (fs gs : List Form) (ps qs : 
   pub within : Over (length fs) b → ⊥
 
 -- what the worth of a board is answered to be; or that the board is past the limits; or that memory is wanting
-abbrev pub WorthAnswer : Grid → List (List ℕ) → Sums → Sums → Result RowForms Failure → Type 0
+abbrev pub WorthAnswer : Grid → List (List ℕ) → Adding → Adding → Result RowForms Failure → Type 0
 WorthAnswer b rs s t (Ok x) = Worth b rs s.table.forms.now t.table.forms.now t.table.options.now t.pairs.now x.sum (vec_items x.owns) t.table.used
 WorthAnswer b rs s t (Err Count) = Over (length s.table.forms.now) b
 WorthAnswer b rs s t (Err NoMemory) = Unit {0}

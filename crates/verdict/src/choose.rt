@@ -2,7 +2,7 @@
 ghost use Rattle.std.specs.Prelude.{length};
 ghost use Rattle.board.specs.Values.{side_of, grid_of};
 ghost use Rattle.rooms.specs.Values.{rooms_of, SmallRooms};
-ghost use Rattle.sums.specs.Values.{AreRight, SameMemory};
+ghost use Rattle.sums.specs.Values.{SameMemory};
 ghost use Rattle.verdict.specs.Choosing.{Chosen};
 
 use crate::tries::try_places;
@@ -22,8 +22,7 @@ pub fn choose(
     side: Side,
     memory: &mut Memory,
 ) -> Result<Option<u16>, Failure>
-    requires rooms { SmallRooms (grid_of board.now) (rooms_of rooms.now) }
-    requires right { AreRight memory.old.sums }
+    requires { SmallRooms (grid_of board.now) (rooms_of rooms.now) }
     ensures answer { Chosen (side_of side) (grid_of board.now) (length memory.old.sums.table.forms.now) result }
     ensures same { SameMemory memory.old memory.new }
 {

@@ -1,6 +1,6 @@
 // The planks that a side may lay, tried one after the other.
 ghost use Rattle.board.specs.Values.{side_of, grid_of};
-ghost use Rattle.sums.specs.Values.{AreRight, SameMemory};
+ghost use Rattle.sums.specs.Values.{SameMemory};
 ghost use Rattle.verdict.specs.Trying.{NotLarge, HasSmallRooms, FoundWorth, TriedAnswer};
 
 use crate::lost::has_lost;
@@ -14,8 +14,7 @@ use sums::row::RowForms;
 
 // The worth of a board that has no room of more than 16 squares, however many rooms it has.
 fn found_worth(heap: Global, board: &Board, memory: &mut Memory) -> Result<RowForms, Failure>
-    requires small { NotLarge (grid_of board.now) }
-    requires right { AreRight memory.old.sums }
+    requires { NotLarge (grid_of board.now) }
     ensures answer { FoundWorth (grid_of board.now) memory.old.sums memory.new.sums result }
     ensures same { SameMemory memory.old memory.new }
 {
@@ -33,8 +32,7 @@ pub fn try_places(
     side: Side,
     memory: &mut Memory,
 ) -> Result<Option<u16>, Failure>
-    requires rooms { HasSmallRooms (grid_of board.now) }
-    requires right { AreRight memory.old.sums }
+    requires { HasSmallRooms (grid_of board.now) }
     ensures answer { TriedAnswer (side_of side) (grid_of board.now) memory.old.sums memory.new.sums result }
     ensures same { SameMemory memory.old memory.new }
 {
@@ -44,7 +42,7 @@ pub fn try_places(
             continue;
         };
         let worth = found_worth(heap, &next, memory)?;
-        if first.is_some() || !has_lost(&memory.sums.table.in_use(), worth.sum, side.other()) {
+        if first.is_some() || !has_lost(&memory.sums.in_use(), worth.sum, side.other()) {
             continue;
         }
         first = Some(place);

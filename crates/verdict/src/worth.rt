@@ -2,7 +2,7 @@
 ghost use Rattle.std.specs.Prelude.{◌≡◌};
 ghost use Rattle.board.specs.Values.{grid_of};
 ghost use Rattle.rooms.specs.Values.{rooms_of, SmallRooms};
-ghost use Rattle.sums.specs.Values.{AreRight, SameMemory};
+ghost use Rattle.sums.specs.Values.{SameMemory};
 ghost use Rattle.verdict.specs.Worths.{WorthAnswer};
 
 use board::board::Board;
@@ -40,8 +40,7 @@ pub fn board_worth(
     rooms: &Rooms,
     memory: &mut Memory,
 ) -> Result<RowForms, Failure>
-    requires rooms { SmallRooms (grid_of board.now) (rooms_of rooms.now) }
-    requires right { AreRight memory.old.sums }
+    requires { SmallRooms (grid_of board.now) (rooms_of rooms.now) }
     ensures answer { WorthAnswer (grid_of board.now) (rooms_of rooms.now) memory.old.sums memory.new.sums result }
     ensures same { SameMemory memory.old memory.new }
 {

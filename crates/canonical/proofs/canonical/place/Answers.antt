@@ -47,4 +47,4 @@ returns-clause-answer c =
     let t = c.args.table.now in
     placed_new t.forms.now t.options.now t.used c.requires.table c.args.rows.upright.now c.args.rows.flat.now c.requires.reduced
     (few_both c.args.rows.upright.now c.args.rows.flat.now c.if-rows-gt16.false c.if-rows-gt16-2.false)
-    c.add.new.self c.add.result c.add.ensures.number c.add.ensures.used c.add.ensures.table c.add.ensures.stays.kept c.add.ensures.row
+    c.add.new.self c.add.result c.add.ensures.number c.add.ensures.used c.add.ensures.stays.after c.add.ensures.stays.kept c.add.ensures.row

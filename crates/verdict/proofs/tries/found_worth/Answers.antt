@@ -5,10 +5,10 @@ use Rattle.verdict.proofs.tries.found_worth.Goals as goal
 
 pub board_worth-requires : goal.board_worth-requires
 unfolding Found
-board_worth-requires c = record { rooms = c.in-Ok.ensures; right = c.requires.right }
+board_worth-requires c = c.in-Ok.ensures
 
 pub returns : goal.returns
 returns c = record { answer = (rooms_of c.in-Ok.rooms, c.board_worth.ensures.answer); same = c.board_worth.ensures.same }
 
 pub unreachable-requires : goal.unreachable-requires
-unreachable-requires c = none_refused (grid_of c.args.board.now) c.in_default.field-0 c.requires.small c.in_default.ensures
+unreachable-requires c = none_refused (grid_of c.args.board.now) c.in_default.field-0 c.requires c.in_default.ensures

@@ -15,20 +15,17 @@ use Rattle.verdict.proofs.tries.try_places.Goals.{then-is_some-via-then-is_some,
 pub loop-place-init : goal.loop-place-init
 loop-place-init c =
     let m = c.args.memory.now in (
-      tried_none (side_of c.args.side) (grid_of c.args.board.now) m.sums.table.forms.now m.sums.table.options.now m.sums.pairs.now m.sums.table.used c.requires.right.table c.requires.right.pairs,
+      tried_none (side_of c.args.side) (grid_of c.args.board.now) m.sums.table.forms.now,
       memory_same m,
     )
 
 pub loop-place-preserved-in_default : goal.loop-place-preserved-in_default
 loop-place-preserved-in_default c =
-    (tried_unlawful (side_of c.args.side) (grid_of c.args.board.now) c.loop-place.place _ _ _ _ _ _ c.loop-place.invariant.0 c.in_default.ensures, c.loop-place.invariant.1)
+    (tried_unlawful (side_of c.args.side) (grid_of c.args.board.now) c.loop-place.place _ _ _ c.loop-place.invariant.0 c.in_default.ensures, c.loop-place.invariant.1)
 
 pub found_worth-requires : goal.found_worth-requires
 found_worth-requires c =
-    record {
-      small = subst NotLarge (sym c.in-Some.ensures.1) (laid_small (grid_of c.args.board.now) (side_of c.args.side) c.loop-place.place c.requires.rooms.0 c.requires.rooms.1);
-      right = record { table = c.loop-place.invariant.0.table; pairs = c.loop-place.invariant.0.pairs };
-    }
+    subst NotLarge (sym c.in-Some.ensures.1) (laid_small (grid_of c.args.board.now) (side_of c.args.side) c.loop-place.place c.requires.0 c.requires.1)
 
 pub returns-in_err-worth-clause-answer : goal.returns-in_err-worth-clause-answer
 returns-in_err-worth-clause-answer c =
@@ -53,7 +50,7 @@ loop-place-preserved-then-is_some c =
           first_answered s b k c.loop-place.first w.if-is_some.ensures first
           (wins_there s b k (side_of w.other.result) next w.other.ensures is (w.if-not-has_lost.ensures next (of_read (λ fs os. Tells next (meaning fs os c.in_ok-worth.worth.sum)) (sym w.in_use.ensures.forms) (sym w.in_use.ensures.options) worth.1.tells)))
     ] in (
-      tried_more s b k _ _ _ _ _ _ c.loop-place.invariant.0 next is _ _ _ worth.0 c.in_ok-worth.worth.sum (vec_items c.in_ok-worth.worth.owns) _ worth.1 c.loop-place.first kept,
+      tried_more s b k _ _ _ c.loop-place.invariant.0 next is _ _ _ worth.0 c.in_ok-worth.worth.sum (vec_items c.in_ok-worth.worth.owns) _ worth.1 c.loop-place.first kept,
       memory_same_on c.loop-place.invariant.1 c.in_ok-worth.ensures.same,
     )
 
@@ -76,7 +73,7 @@ loop-place-preserved c =
     let lost =
     lost_there s b k (side_of c.other.result) next c.other.ensures is
     (c.if-not-has_lost.ensures next (of_read (λ fs os. Tells next (meaning fs os c.in_ok-worth.worth.sum)) (sym c.in_use.ensures.forms) (sym c.in_use.ensures.options) worth.1.tells)) in (
-      tried_more s b k _ _ _ _ _ _ c.loop-place.invariant.0 next is _ _ _ worth.0 c.in_ok-worth.worth.sum (vec_items c.in_ok-worth.worth.owns) _ worth.1 (Some k)
+      tried_more s b k _ _ _ c.loop-place.invariant.0 next is _ _ _ worth.0 c.in_ok-worth.worth.sum (vec_items c.in_ok-worth.worth.owns) _ worth.1 (Some k)
           (first_found s b k c.loop-place.first c.if-is_some.ensures c.loop-place.invariant.0.first c.in-Some.ensures.0 lost),
       memory_same_on c.loop-place.invariant.1 c.in_ok-worth.ensures.same,
     )
@@ -84,4 +81,4 @@ loop-place-preserved c =
 pub returns-clause-answer : goal.returns-clause-answer
 returns-clause-answer c =
     let b = grid_of c.args.board.now in
-    tried_all (side_of c.args.side) b c.loop-place.place (length b.cells) (let n = c.size-place-end.ensures.value in omega arith) _ _ _ _ _ _ c.loop-place.invariant.0
+    tried_all (side_of c.args.side) b c.loop-place.place (length b.cells) (let n = c.size-place-end.ensures.value in omega arith) _ _ _ c.loop-place.invariant.0

@@ -5,5 +5,5 @@ use Rattle.verdict.proofs.tries.try_places.Given as goal
 
 abbrev pub invariant-loop-place : goal.invariant-loop-place
 invariant-loop-place l =
-    Tried (side_of l.side) (grid_of l.board) l.place l.initial.memory.sums.table.forms.now l.memory.sums.table.forms.now l.memory.sums.table.options.now l.memory.sums.pairs.now l.first l.memory.sums.table.used
+    Tried (side_of l.side) (grid_of l.board) l.place l.initial.memory.sums.table.forms.now l.memory.sums.table.forms.now l.first
     × SameMemory l.initial.memory l.memory

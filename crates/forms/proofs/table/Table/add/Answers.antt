@@ -55,9 +55,10 @@ returns c =
     (record {
       number = refl;
       used = refl;
-      table = table_after s.forms.now s.options.now s.used us ls t room fresh c.bucket-bucket.result bound value _ same before written;
       row = new_row s.forms.now s.options.now s.used us ls t room fresh c.bucket-bucket.result bound value _ same before written;
       stays = record {
+        before = t;
+        after = table_after s.forms.now s.options.now s.used us ls t room fresh c.bucket-bucket.result bound value _ same before written;
         rows = record { forms = refl; options = refl; places = length-set _ s.used _ ∙ length-set s.forms.now c.bucket-bucket.result _; space = same };
         kept = kept_after s.forms.now s.options.now s.used us ls t room fresh c.bucket-bucket.result bound value _ same before written;
       };

@@ -9,15 +9,17 @@ use Rattle.sums.specs.Counting.{InRow}
 use Rattle.sums.proofs.Lining.{row_none}
 use Rattle.sums.proofs.Counted.{row_formed}
 use Rattle.sums.proofs.Rounds.{memory_same, memory_same_on, at_room, round_more, round_stopped}
+use Rattle.sums.proofs.Gathering.{right_of}
 use Rattle.sums.proofs.memory.Memory.row_of_rooms.Goals as goal
 
 pub loop-room-init : goal.loop-room-init
 loop-room-init c =
+    let right = right_of c.self-inside.invariant (λ i. (c.self-inside.view_is i).0.0.table) c.self.invariant (λ i. (c.self.view_is i).sums) in
     let b = grid_of c.args.board.now in
     let s = c.args.self.now.sums.table in (
       (
-        subst (λ owns. InRow b [] s.forms.now s.options.now s.used s.forms.now s.options.now 0 owns s.used) (sym c.new-owns.ensures.items) (row_none b s.forms.now s.options.now s.used c.requires.right.table),
-        c.requires.right.pairs,
+        subst (λ owns. InRow b [] s.forms.now s.options.now s.used s.forms.now s.options.now 0 owns s.used) (sym c.new-owns.ensures.items) (row_none b s.forms.now s.options.now s.used right.table),
+        right.pairs,
       ),
       memory_same c.args.self.now,
     )
@@ -25,10 +27,10 @@ loop-room-init c =
 pub new-moves-requires : goal.new-moves-requires
 new-moves-requires c =
     let at = at_room c.as_slice-held.result.now (rooms_of c.args.rooms.now) c.as_slice-held.ensures c.loop-room.room-index c.room-item.result c.loop-room-test.true c.room-item.is in
-    record { room = subst (Room (grid_of c.args.board.now)) at.1 (All-get_or (Room (grid_of c.args.board.now)) (rooms_of c.args.rooms.now) c.loop-room.room-index [] at.0 c.requires.rooms.rooms.each) }
+    record { room = subst (Room (grid_of c.args.board.now)) at.1 (All-get_or (Room (grid_of c.args.board.now)) (rooms_of c.args.rooms.now) c.loop-room.room-index [] at.0 c.requires.rooms.each) }
 
 pub join-requires : goal.join-requires
-join-requires c = record { right = record { table = c.loop-room.invariant.0.0.grows.table; pairs = c.loop-room.invariant.0.1 }; known = c.loop-room.invariant.0.0.known }
+join-requires c = c.loop-room.invariant.0.0.known
 
 pub returns-in_err-joined-clause-answer : goal.returns-in_err-joined-clause-answer
 returns-in_err-joined-clause-answer c =
@@ -65,7 +67,7 @@ returns-clause-answer c =
     let t = c.loop-room.self.sums.table in
     let long : length (map squares_of c.as_slice-held.result.now) ≡ length (rooms_of c.args.rooms.now) = ap length c.as_slice-held.ensures in
     let same = length-map c.as_slice-held.result.now squares_of in (
-      row_formed b (rooms_of c.args.rooms.now) c.requires.rooms s.forms.now s.options.now s.used t.forms.now t.options.now c.loop-room.sum (vec_items c.loop-room.owns) t.used
+      row_formed b (rooms_of c.args.rooms.now) c.requires s.forms.now s.options.now s.used t.forms.now t.options.now c.loop-room.sum (vec_items c.loop-room.owns) t.used
           (subst (λ l. InRow b l s.forms.now s.options.now s.used t.forms.now t.options.now c.loop-room.sum (vec_items c.loop-room.owns) t.used)
           (take_all c.loop-room.room-index (rooms_of c.args.rooms.now) (omega arith)) c.loop-room.invariant.0.0),
       c.loop-room.invariant.0.1,
