@@ -1,15 +1,15 @@
 // The canonical form of a game that is given by two rows of forms, found in the table or added to it.
 ghost use Rattle.std.specs.Prelude.{◌≡◌, IfOk};
 ghost use Rattle.board.specs.Values.{side_of};
-ghost use Rattle.forms.specs.Values.{IsTable, Stays, in_use, game_by, game_from};
-ghost use Rattle.canonical.specs.Compares.{BothKnown};
+ghost use Rattle.forms.specs.Values.{IsTable, Stays, in_use, game_from};
+ghost use Rattle.canonical.specs.Compares.{BothKnown, game_given};
 ghost use Rattle.canonical.specs.Reducing.{Reduced, Reduction};
 ghost use Rattle.canonical.specs.Answers.{Outcome};
 
-use crate::keep::bypass;
+use crate::given::Given;
 use crate::thin::thin;
 use board::side::Side;
-use forms::rows::{Forms, Rows};
+use forms::rows::Rows;
 use forms::table::Table;
 use std::alloc::{AllocError, AllocFailed, Global};
 
@@ -48,8 +48,12 @@ pub fn canonical(heap: Global, table: &mut Table, rows: Rows) -> Result<u16, Ref
     ensures answer { Outcome table.old table.new (game_from table.old rows.entry) result }
     ensures stays { Stays table.old table.new }
 {
-    let upright = reduce(heap, &table.in_use(), Side::Upright, rows)?;
-    let flat = reduce(heap, &table.in_use(), Side::Flat, rows)?;
+    let given = Given {
+        forms: table.in_use(),
+        rows,
+    };
+    let upright = given.reduce(heap, Side::Upright)?;
+    let flat = given.reduce(heap, Side::Flat)?;
     let reduced = Rows {
         upright: upright.as_slice(),
         flat: flat.as_slice(),
@@ -57,13 +61,14 @@ pub fn canonical(heap: Global, table: &mut Table, rows: Rows) -> Result<u16, Ref
     place(table, reduced)
 }
 
-// The options of a side in the canonical form of that game.
-fn reduce(heap: Global, forms: &Forms, side: Side, rows: Rows) -> Result<Vec<u16>, AllocError>
-    requires { BothKnown forms.now.forms rows.upright.now rows.flat.now }
-    ensures { IfOk result (λ v. Reduced forms.now.forms forms.now.options (side_of side) (game_by forms.now rows.entry) v.items) }
-{
-    let firm = bypass(heap, forms, side, rows)?;
-    thin(heap, forms, side, firm.as_slice())
+impl Given<'_> {
+    // The options of a side in the canonical form of the game.
+    fn reduce(&self, heap: Global, side: Side) -> Result<Vec<u16>, AllocError>
+        ensures { IfOk result (λ v. Reduced self.now.forms.forms self.now.forms.options (side_of side) (game_given self.now) v.items) }
+    {
+        let firm = self.bypass(heap, side)?;
+        thin(heap, &self.forms, side, firm.as_slice())
+    }
 }
 
 // The form with these rows, which are those of a canonical game.

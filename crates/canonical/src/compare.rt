@@ -1,11 +1,12 @@
 // Forms compared with each other, and with a game that is given by two rows and has no form yet.
 ghost use Rattle.std.specs.Prelude.{◌≡◌, ◌<◌, length};
 ghost use Rattle.board.specs.Values.{side_of};
-ghost use Rattle.forms.specs.Values.{game_of, game_by};
-ghost use Rattle.canonical.specs.Compares.{Tells, BothKnown, Reply};
+ghost use Rattle.forms.specs.Values.{game_of};
+ghost use Rattle.canonical.specs.Compares.{Tells, Reply, game_given};
 
+use crate::given::Given;
 use board::side::Side;
-use forms::rows::{Forms, Rows};
+use forms::rows::Forms;
 
 // Is form g no better than form h for a side.
 pub fn worse(forms: &Forms, side: Side, g: u16, h: u16) -> bool
@@ -19,38 +20,38 @@ pub fn worse(forms: &Forms, side: Side, g: u16, h: u16) -> bool
     }
 }
 
-// Is form k no better for a side than the game that two rows give.
-pub fn within(forms: &Forms, side: Side, k: u16, rows: Rows) -> bool
-    requires known { k < length forms.now.forms }
-    requires rows { BothKnown forms.now.forms rows.upright.now rows.flat.now }
-    ensures { Tells result (side_of side) (game_of forms.now k) (game_by forms.now rows.entry) }
-{
-    let own = forms.row(side, k);
-    for x in own {
-        if within(forms, side.other(), *x, rows) {
-            return false;
+impl Given<'_> {
+    // Is form k no better for a side than the game.
+    pub fn within(&self, side: Side, k: u16) -> bool
+        requires { k < length self.now.forms.forms }
+        ensures { Tells result (side_of side) (game_of self.now.forms k) (game_given self.now) }
+    {
+        let own = self.row(side, k);
+        for x in own {
+            if self.within(side.other(), *x) {
+                return false;
+            }
         }
-    }
-    let replies = rows.of(side.other());
-    for y in replies {
-        if worse(forms, side, *y, k) {
-            return false;
+        let replies = self.of(side.other());
+        for y in replies {
+            if worse(&self.forms, side, *y, k) {
+                return false;
+            }
         }
+        true
     }
-    true
-}
 
-// A reply of the other side to form x that is no better than the game that two rows give, so that x is reversible in it.
-pub fn reply(forms: &Forms, side: Side, x: u16, rows: Rows) -> Option<u16>
-    requires known { x < length forms.now.forms }
-    requires rows { BothKnown forms.now.forms rows.upright.now rows.flat.now }
-    ensures { Reply forms.now.forms forms.now.options (side_of side) x (game_by forms.now rows.entry) result }
-{
-    let replies = forms.row(side.other(), x);
-    for y in replies {
-        if within(forms, side, *y, rows) {
-            return Some(*y);
+    // A reply of the other side to form x that is no better than the game, so that x is reversible in it.
+    pub fn reply(&self, side: Side, x: u16) -> Option<u16>
+        requires { x < length self.now.forms.forms }
+        ensures { Reply self.now.forms.forms self.now.forms.options (side_of side) x (game_given self.now) result }
+    {
+        let replies = self.row(side.other(), x);
+        for y in replies {
+            if self.within(side, *y) {
+                return Some(*y);
+            }
         }
+        None
     }
-    None
 }

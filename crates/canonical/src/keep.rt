@@ -2,49 +2,42 @@
 ghost use Rattle.std.specs.Prelude.{◌<◌, length, IfOk, OnOk};
 ghost use Rattle.games.specs.Order.{NotWorse};
 ghost use Rattle.board.specs.Values.{side_of};
-ghost use Rattle.forms.specs.Values.{game_of, game_by};
-ghost use Rattle.canonical.specs.Compares.{BothKnown};
+ghost use Rattle.forms.specs.Values.{game_of};
+ghost use Rattle.canonical.specs.Compares.{game_given};
 ghost use Rattle.canonical.specs.Reducing.{Fit, Passed, Bypassed};
 
-use crate::compare::reply;
+use crate::given::Given;
 use crate::rising::insert;
 use board::side::Side;
-use forms::rows::{Forms, Rows};
 use std::alloc::{AllocError, Global};
 
-// The forms that serve for the options of a side in the game that two rows give, none of them reversible in it.
-pub fn bypass(heap: Global, forms: &Forms, side: Side, rows: Rows) -> Result<Vec<u16>, AllocError>
-    requires rows { BothKnown forms.now.forms rows.upright.now rows.flat.now }
-    ensures { IfOk result (λ v. Bypassed forms.now.forms forms.now.options (side_of side) (game_by forms.now rows.entry) v.items) }
-{
-    let mut chosen = Vec::new(heap);
-    let own = rows.of(side);
-    for x in own {
-        keep(forms, side, *x, rows, &mut chosen)?;
+impl Given<'_> {
+    // The forms that serve for the options of a side in the game, none of them reversible in it.
+    pub fn bypass(&self, heap: Global, side: Side) -> Result<Vec<u16>, AllocError>
+        ensures { IfOk result (λ v. Bypassed self.now.forms.forms self.now.forms.options (side_of side) (game_given self.now) v.items) }
+    {
+        let mut chosen = Vec::new(heap);
+        let own = self.of(side);
+        for x in own {
+            self.keep(side, *x, &mut chosen)?;
+        }
+        Ok(chosen)
     }
-    Ok(chosen)
-}
 
-// Keeps form x in a row, or, where it is reversible, what follows the reply.
-fn keep(
-    forms: &Forms,
-    side: Side,
-    x: u16,
-    rows: Rows,
-    chosen: &mut Vec<u16>,
-) -> Result<(), AllocError>
-    requires known { x < length forms.now.forms }
-    requires rows { BothKnown forms.now.forms rows.upright.now rows.flat.now }
-    requires allowed { NotWorse (side_of side) (game_by forms.now rows) (game_of forms.now x) }
-    requires fit { Fit forms.now.forms forms.now.options (side_of side) (game_by forms.now rows) chosen.old.items }
-    ensures { OnOk result (Passed forms.now.forms forms.now.options (side_of side) (game_by forms.now rows.entry) chosen.old.items x chosen.new.items) }
-{
-    let Some(y) = reply(forms, side, x, rows) else {
-        return insert(chosen, x);
-    };
-    let after = forms.row(side, y);
-    for z in after {
-        keep(forms, side, *z, rows, chosen)?;
+    // Keeps form x in a row, or, where it is reversible, what follows the reply.
+    fn keep(&self, side: Side, x: u16, chosen: &mut Vec<u16>) -> Result<(), AllocError>
+        requires known { x < length self.now.forms.forms }
+        requires allowed { NotWorse (side_of side) (game_given self.now) (game_of self.now.forms x) }
+        requires fit { Fit self.now.forms.forms self.now.forms.options (side_of side) (game_given self.now) chosen.old.items }
+        ensures { OnOk result (Passed self.now.forms.forms self.now.forms.options (side_of side) (game_given self.now) chosen.old.items x chosen.new.items) }
+    {
+        let Some(y) = self.reply(side, x) else {
+            return insert(chosen, x);
+        };
+        let after = self.row(side, y);
+        for z in after {
+            self.keep(side, *z, chosen)?;
+        }
+        Ok(())
     }
-    Ok(())
 }

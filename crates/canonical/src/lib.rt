@@ -3,6 +3,7 @@
 
 pub mod canonical;
 pub mod compare;
+pub mod given;
 pub mod keep;
 pub mod rising;
 #[cfg(test)]

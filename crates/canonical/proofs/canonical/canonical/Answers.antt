@@ -15,7 +15,7 @@ place-requires c =
     let ls = c.args.rows.flat.now in
     let g = game_from t c.args.rows in
     let up = of_read (λ gs ps. Reduced gs ps true (given gs ps us ls) c.in_ok-upright.upright.items) c.in_use.ensures.forms c.in_use.ensures.options c.in_ok-upright.ensures in
-    let low = of_read (λ gs ps. Reduced gs ps false (given gs ps us ls) c.in_ok-flat.flat.items) c.in_use-2.ensures.forms c.in_use-2.ensures.options c.in_ok-flat.ensures in
+    let low = of_read (λ gs ps. Reduced gs ps false (given gs ps us ls) c.in_ok-flat.flat.items) c.in_use.ensures.forms c.in_use.ensures.options c.in_ok-flat.ensures in
     record {
       table = c.in_use.ensures.table;
       reduced =
@@ -32,7 +32,7 @@ returns-clause-answer c =
     let ls = c.args.rows.flat.now in
     let g = game_from t c.args.rows in
     let up = of_read (λ gs ps. Reduced gs ps true (given gs ps us ls) c.in_ok-upright.upright.items) c.in_use.ensures.forms c.in_use.ensures.options c.in_ok-upright.ensures in
-    let low = of_read (λ gs ps. Reduced gs ps false (given gs ps us ls) c.in_ok-flat.flat.items) c.in_use-2.ensures.forms c.in_use-2.ensures.options c.in_ok-flat.ensures in
+    let low = of_read (λ gs ps. Reduced gs ps false (given gs ps us ls) c.in_ok-flat.flat.items) c.in_use.ensures.forms c.in_use.ensures.options c.in_ok-flat.ensures in
     outcome_equal t c.place.new.table g (given fs os c.as_slice.result.now c.as_slice-2.result.now)
     (equal_reduced fs os c.in_use.ensures.table.sound g c.as_slice.result.now c.as_slice-2.result.now
     (both_reduced fs os g c.as_slice.result.now c.as_slice-2.result.now _ _ c.as_slice.ensures.value c.as_slice-2.ensures.value up low)) c.place.result c.place.ensures.answer

@@ -7,13 +7,13 @@ use Rattle.forms.proofs.Places.{option_below}
 use Rattle.forms.proofs.Compared.{option_at}
 use Rattle.canonical.specs.Reducing.{Inserted, Passed}
 use Rattle.canonical.proofs.Passing.{passing_none, passing_more, passing_end, kept_in, follows, bypassed}
-use Rattle.canonical.proofs.keep.+keep.Goals as goal
+use Rattle.canonical.proofs.given.Given.+keep.Goals as goal
 
 pub returns-in_default : goal.returns-in_default
 returns-in_default t c =
-    let fs = c.args.forms.now.forms in
-    let os = c.args.forms.now.options in
-    let g = given fs os c.args.rows.upright.now c.args.rows.flat.now in
+    let fs = c.args.self.now.forms.forms in
+    let os = c.args.self.now.forms.options in
+    let g = given fs os c.args.self.now.rows.upright.now c.args.self.now.rows.flat.now in
     let row = vec_items c.args.chosen.now in
     let new = vec_items c.insert.new.row in
     IfOk-weaker c.insert.result (λ _. Inserted row c.args.x new) (λ _. Passed fs os (side_of c.args.side) g row c.args.x new)
@@ -21,14 +21,14 @@ returns-in_default t c =
 
 pub loop-z-init : goal.loop-z-init
 loop-z-init t c =
-    passing_none c.args.forms.now.forms c.args.forms.now.options (side_of c.args.side) (given c.args.forms.now.forms c.args.forms.now.options c.args.rows.upright.now c.args.rows.flat.now) (vec_items c.args.chosen.now) c.requires.fit
+    passing_none c.args.self.now.forms.forms c.args.self.now.forms.options (side_of c.args.side) (given c.args.self.now.forms.forms c.args.self.now.forms.options c.args.self.now.rows.upright.now c.args.self.now.rows.flat.now) (vec_items c.args.chosen.now) c.requires.fit
 
 pub keep-requires : goal.keep-requires
 keep-requires t c =
-    let fs = c.args.forms.now.forms in
-    let os = c.args.forms.now.options in
+    let fs = c.args.self.now.forms.forms in
+    let os = c.args.self.now.forms.options in
     let s = (side_of c.args.side) in
-    let g = given fs os c.args.rows.upright.now c.args.rows.flat.now in
+    let g = given fs os c.args.self.now.rows.upright.now c.args.self.now.rows.flat.now in
     let r = c.in-Some.ensures in
     let y = c.in-Some.y in
     let z = get_or c.row-after.result.now c.loop-z.z-index 0 in
@@ -38,22 +38,22 @@ keep-requires t c =
     let i = option_at fs os c.row-after.ensures.sound s y known_y _ c.row-after.ensures.row c.loop-z.z-index c.loop-z-test.true in
     let known : z < length fs = omega arith in
     let falls : z < c.args.x = omega arith in
-    (omega (arith, c.decreases), (known, (c.requires.rows, (follows fs os s g c.row-after.ensures.sound c.args.x y known_y r.1 r.2 z i, c.loop-z.invariant.fit))))
+    (omega (arith, c.decreases), (known, (follows fs os s g c.row-after.ensures.sound c.args.x y known_y r.1 r.2 z i, c.loop-z.invariant.fit)))
 
 pub loop-z-preserved : goal.loop-z-preserved
 loop-z-preserved t c =
-    let fs = c.args.forms.now.forms in
-    let os = c.args.forms.now.options in
-    let g = given fs os c.args.rows.upright.now c.args.rows.flat.now in
+    let fs = c.args.self.now.forms.forms in
+    let os = c.args.self.now.forms.options in
+    let g = given fs os c.args.self.now.rows.upright.now c.args.self.now.rows.flat.now in
     passing_more fs os (side_of c.args.side) g (vec_items c.args.chosen.now) (vec_items c.loop-z.chosen) (vec_items c.keep.new.chosen) c.row-after.result.now c.loop-z.z-index
     c.loop-z-test.true c.loop-z.invariant c.in_ok-keep.ensures
 
 pub returns : goal.returns
 returns t c =
-    let fs = c.args.forms.now.forms in
-    let os = c.args.forms.now.options in
+    let fs = c.args.self.now.forms.forms in
+    let os = c.args.self.now.forms.options in
     let s = (side_of c.args.side) in
-    let g = given fs os c.args.rows.upright.now c.args.rows.flat.now in
+    let g = given fs os c.args.self.now.rows.upright.now c.args.self.now.rows.flat.now in
     let r = c.in-Some.ensures in
     let less = r.0 in
     bypassed fs os s g c.row-after.ensures.sound c.args.x c.in-Some.y (omega (arith, c.requires.known)) r.1 r.2 (vec_items c.args.chosen.now) (vec_items c.loop-z.chosen)

@@ -1,0 +1,9 @@
+use Rattle.std.proofs.Common.{take}
+use Rattle.std.specs.List.{AllByRecursion as Every}
+use Rattle.board.specs.Values.{side_of}
+use Rattle.games.specs.Order.{NotWorse}
+use Rattle.forms.specs.Meaning.{meaning, given}
+use Rattle.canonical.proofs.given.Given.reply.Given as given'
+
+abbrev pub invariant-loop-y : given'.invariant-loop-y
+invariant-loop-y l = Every (λ y. NotWorse (side_of l.side) (meaning l.self.forms.forms l.self.forms.options y) (given l.self.forms.forms l.self.forms.options l.self.rows.upright.now l.self.rows.flat.now)) (take l.y-index l.replies)
