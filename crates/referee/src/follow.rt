@@ -33,10 +33,8 @@ fn play(start: Setup, places: &[u8]) -> Result<Setup, Refusal>
     let mut board = start.board;
     let mut side = start.side;
     for (i, place) in places.iter().enumerate() {
-        let Some(next) = board.lay(side, *place as u16) else {
-            return Err(Refusal::Plank(i));
-        };
-        board = next;
+        let next = board.lay(side, *place as u16);
+        board = next.ok_or(Refusal::Plank(i))?;
         side = side.other();
     }
     Ok(Setup { board, side })
