@@ -1,4 +1,5 @@
-// Forms compared with each other, and with a game that is given by two rows and has no form yet.
+// Forms compared with each other, and with a game that is given by two rows and has no form yet. The loops stay loops: with `any` and `find` the
+// closure's need that each form is known did not close, and `within` calls itself.
 ghost use Rattle.std.specs.Prelude.{◌≡◌, ◌<◌, length};
 ghost use Rattle.board.specs.Values.{side_of};
 ghost use Rattle.forms.specs.Values.{game_of};

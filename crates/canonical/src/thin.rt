@@ -33,7 +33,7 @@ pub fn thin(heap: Global, forms: &Forms, side: Side, row: &[u16]) -> Result<Vec<
     Ok(best)
 }
 
-// Is form x no better for a side than some form of a row.
+// Is form x no better for a side than some form of a row. A loop, since with `any` the closure's need that each form is known did not close.
 fn is_dominated(forms: &Forms, side: Side, x: u16, row: &[u16]) -> bool
     requires first { x < length forms.now.forms }
     requires known { Known forms.now.forms row.now }

@@ -9,6 +9,7 @@ use std::io;
 
 // How many of these sets something is known of.
 fn count_noted(sets: &[u32]) -> usize {
+    // in the lent row 0 stands for none
     sets.iter().filter(|noted| **noted > 0).count()
 }
 

@@ -34,6 +34,7 @@ fn tell_count(rt: &HostRuntime, what: &str, bytes: &[u8]) -> io::Result<()> {
     let count = memory.sums.table.used;
     println!(rt; "{what}: form {sum}, count {count}")?;
     let owns = found.owns.as_slice();
+    // `alike` asks for the number of a room
     for i in 0..owns.len() {
         if let Some(j) = alike(owns, i) {
             println!(rt; "{what}: room {i} like {j}")?;

@@ -1,4 +1,5 @@
-// The test of order. The two functions call each other, and the sum of the two numbers falls.
+// The test of order, and its contrary. The two functions call each other, and the sum of the two numbers falls; they go through the options by loops,
+// since a closure in a cycle of calls would need a measure of its own.
 ghost use Rattle.std.specs.Prelude.{◌<◌, length, MatchBool};
 ghost use Rattle.games.specs.Order.{Le, NotLe};
 ghost use Rattle.forms.specs.Values.{game_of};

@@ -60,6 +60,7 @@ impl<'a> Table<'a> {
     {
         let in_use = self.in_use();
         let mut link = self.forms[bucket(self.forms.len(), rows)].head;
+        // a walk along the links of a bucket, which stand in the forms themselves
         while let Some(k) = link {
             if is_row(&in_use, k, rows) {
                 return Some(k);
@@ -149,7 +150,7 @@ fn write_row(place: &mut [u16], rows: Rows)
     place[16..16 + rows.flat.len()].copy_from_slice(rows.flat);
 }
 
-// Begins a table in these rows, with form 0, the empty game, alone. None where there is no place for it, where there are too many, or where the options
+// Begins a table in these rows, which are not yet one, with form 0, the empty game, alone. None where there is no place for it, where there are too many, or where the options
 // of them all have no room.
 pub fn start(forms: &mut [Form], options: &[u16]) -> Option<u16>
     ensures { Started forms.old options.now forms.new result }

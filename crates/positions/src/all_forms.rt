@@ -38,7 +38,7 @@ pub fn room_forms(
     Ok(RoomForms { own, all })
 }
 
-// The forms that are noted of any set, rising.
+// The forms that are noted of any set, rising. In the lent row 0 stands for none.
 fn noted_forms(heap: Global, sets: &[u32]) -> Result<Vec<u16>, AllocError>
     requires { (k : ℕ) → slice_index sets.now k ≤ 65536 }
     ensures { IfOk result (λ v. Listed sets.now (length sets.now) v.items) }

@@ -44,7 +44,7 @@ pub fn form(
     Ok(found)
 }
 
-// The form that is noted of a set, or None where none is.
+// The form that is noted of a set, or None where none is: the row is lent as plain numbers, so 0 stands for none there.
 fn recall(positions: &[u32], set: u16) -> Option<u16>
     requires long { set < length positions.now }
     requires fits { slice_index positions.now set ≤ 65536 }
@@ -76,6 +76,7 @@ fn option_row(
     // a table always holds form 0
     prove!(table.used > 0);
     let mut row = Vec::new(heap);
+    // a move is told by the number of its square
     for i in 0..room.len() {
         let Some(rest) = room.after(set, side, i) else {
             continue;

@@ -11,6 +11,7 @@ pub struct RoomMoves {
     pub(crate) board: Board,
     pub(crate) room: Room,
     // for each side and each square of the room, the squares that the move there covers, or None where no such move lies in the room
+    // (an array by value for each side: a room is copied, and no heap is needed)
     pub(crate) upright: [Option<u16>; 16],
     pub(crate) flat: [Option<u16>; 16],
     pub ghost ground: { Ground (grid_of board) (squares_of room) upright flat } by { ground_prop (grid_of board) (squares_of room) upright flat },

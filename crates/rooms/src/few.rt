@@ -1,4 +1,4 @@
-// A list by value, of at most N things.
+// A list by value, of at most N things: rooms are copied, and no heap is needed for them.
 ghost use Rattle.std.specs.Prelude.{◌≡◌, ◌≤◌, [], ◌∷◌, ◌++◌, length, Some, None, MatchOption, IsPermutation, ⊤};
 ghost use Rattle.std.specs.List.Sorted.{IsNonDecreasing};
 
@@ -11,6 +11,7 @@ pub struct Few<T, const N: usize> {
     ghost few: { len ≤ N },
 }
 
+// written out: the derive of `Clone` refuses a generic struct with a ghost field
 impl<T: Copy, const N: usize> Clone for Few<T, N> {
     ghost is_clone = { λ x y. y ≡ x };
 

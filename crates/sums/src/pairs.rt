@@ -2,7 +2,7 @@
 ghost use Rattle.std.specs.Prelude.{◌≡◌, ◌+◌, ◌*◌, ◌<◌, ◌⊎◌, MatchOption};
 ghost use Rattle.sums.specs.Pairs.{key_of, Recalled, OnlyMore};
 
-// The key of a pair of forms, in whichever order they stand.
+// The key of a pair of forms, in whichever order they stand. No pair has key 0, which stands for none in the lent row.
 fn key(x: u16, y: u16) -> u32
     ensures { (result ≡ key_of x y) ⊎ (result ≡ key_of y x) }
 {

@@ -7,7 +7,8 @@ ghost use Rattle.verdict.specs.Lines.{verdict_text, rooms_text, room_text};
 use board::side::Side;
 use std::fmt;
 
-// For the side to move: the first place from which it makes the last move, or that it has lost.
+// For the side to move: the first place from which it makes the last move, or that it has lost. An enum of its own, since these are the two words of
+// the answer that is told.
 #[derive(Clone, Copy, Debug, PartialEq, Eq)]
 pub enum Verdict {
     WinsAt(u16),
