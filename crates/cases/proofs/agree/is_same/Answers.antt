@@ -1,6 +1,0 @@
-use Rattle.rooms.specs.Values.{Found}
-use Rattle.cases.proofs.agree.is_same.Goals as goal
-
-pub choose-requires-clause-rooms : goal.choose-requires-clause-rooms
-unfolding Found
-choose-requires-clause-rooms c = c.in-Ok-all_rooms.ensures

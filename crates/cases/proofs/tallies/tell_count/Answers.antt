@@ -1,6 +1,0 @@
-use Rattle.rooms.specs.Values.{Found}
-use Rattle.cases.proofs.tallies.tell_count.Goals as goal
-
-pub row_of_rooms-requires-clause-rooms : goal.row_of_rooms-requires-clause-rooms
-unfolding Found
-row_of_rooms-requires-clause-rooms c = c.in-Ok-all_rooms.ensures
