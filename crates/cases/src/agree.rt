@@ -4,7 +4,7 @@ ghost use Rattle.std.specs.Prelude.{◌≤◌};
 use board::read::read_board;
 use forms::rows::BLANK;
 use forms::table::Table;
-use rooms::find::all_rooms;
+use rooms::split::Split;
 use search::first_win;
 use std::io;
 use sums::memory::Memory;
@@ -32,7 +32,7 @@ fn is_same(rt: &HostRuntime, bytes: &[u8]) -> bool {
     let Ok(setup) = read_board(bytes) else {
         return false;
     };
-    let Ok(rooms) = all_rooms(&setup.board) else {
+    let Ok(split) = Split::of(&setup.board) else {
         return false;
     };
     let mut forms = [BLANK; 128];
@@ -46,7 +46,7 @@ fn is_same(rt: &HostRuntime, bytes: &[u8]) -> bool {
         sums: Sums::new(table, &mut pairs),
         positions: &mut positions,
     };
-    let Ok(found) = choose(rt.alloc(), &setup.board, &rooms, setup.side, &mut memory) else {
+    let Ok(found) = choose(rt.alloc(), &split, setup.side, &mut memory) else {
         return false;
     };
     found == first_win(&setup.board, setup.side)

@@ -2,7 +2,7 @@
 use board::read::read_board;
 use forms::rows::BLANK;
 use forms::table::Table;
-use rooms::find::all_rooms;
+use rooms::split::Split;
 use std::io;
 use sums::alike::alike;
 use sums::memory::Memory;
@@ -13,7 +13,7 @@ fn tell_count(rt: &HostRuntime, what: &str, bytes: &[u8]) -> io::Result<()> {
     let Ok(setup) = read_board(bytes) else {
         return println!(rt; "{what}: not read");
     };
-    let Ok(rooms) = all_rooms(&setup.board) else {
+    let Ok(split) = Split::of(&setup.board) else {
         return println!(rt; "{what}: refused");
     };
     let mut forms = [BLANK; 512];
@@ -27,7 +27,7 @@ fn tell_count(rt: &HostRuntime, what: &str, bytes: &[u8]) -> io::Result<()> {
         sums: Sums::new(table, &mut pairs),
         positions: &mut positions,
     };
-    let Ok(found) = memory.row_of_rooms(rt.alloc(), &setup.board, &rooms) else {
+    let Ok(found) = memory.row_of_rooms(rt.alloc(), &split) else {
         return println!(rt; "{what}: no answer");
     };
     let sum = found.sum;

@@ -6,3 +6,5 @@ pub mod Games
 pub mod Growth
 pub mod Values
 pub mod Laid
+pub mod Held
+pub mod Splits

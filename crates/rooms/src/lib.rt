@@ -6,6 +6,7 @@ pub mod find;
 pub mod list;
 pub mod read;
 pub mod room;
+pub mod split;
 #[cfg(test)]
 mod tests;
 pub mod theory;

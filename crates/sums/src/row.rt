@@ -1,13 +1,11 @@
 // The rooms of a board beside each other.
-ghost use Rattle.board.specs.Values.{grid_of};
-ghost use Rattle.rooms.specs.Values.{rooms_of, SmallRooms};
+ghost use Rattle.rooms.specs.Values.{SmallRooms};
 ghost use Rattle.sums.specs.Values.{SameMemory, RoomsOf};
 
 use crate::memory::Memory;
-use board::board::Board;
 use canonical::canonical::Refusal;
 use positions::room::RoomMoves;
-use rooms::list::Rooms;
+use rooms::split::Split;
 use std::alloc::Global;
 
 // The form of the whole board, and for each room its own form.
@@ -20,23 +18,18 @@ pub struct RowForms {
 impl Memory<'_> {
     // The form of a board: that of its rooms beside each other. On the way it finds all forms that count for the board. Full where there is no place
     // for them all in the table, whose length is the limit; from a table of one form, only where the board's count is above the limit.
-    pub fn row_of_rooms(
-        &mut self,
-        heap: Global,
-        board: &Board,
-        rooms: &Rooms,
-    ) -> Result<RowForms, Refusal>
-        requires { SmallRooms (grid_of board.now) (rooms_of rooms.now) }
-        ensures answer { RoomsOf (grid_of board.now) (rooms_of rooms.now) self.old.sums self.new.sums result }
+    pub fn row_of_rooms(&mut self, heap: Global, split: &Split) -> Result<RowForms, Refusal>
+        ensures answer { RoomsOf split.now.board split.now.rooms self.old.sums self.new.sums result }
+        ensures rooms { SmallRooms split.now.board split.now.rooms }
         ensures same { SameMemory self.old self.new }
     {
         // a table always holds form 0
         prove!(self.sums.table.used > 0);
         let mut sum = 0;
         let mut owns = Vec::new(heap);
-        let held = rooms.as_slice();
+        let held = split.rooms.as_slice();
         for room in held {
-            let moves = RoomMoves::new(board, room);
+            let moves = RoomMoves::new(split.board, room);
             let joined = self.join(heap, &moves, sum)?;
             owns.push(joined.own)?;
             sum = joined.sum;

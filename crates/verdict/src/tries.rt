@@ -7,7 +7,7 @@ use crate::lost::has_lost;
 use crate::worth::{Failure, board_worth};
 use board::board::Board;
 use board::side::Side;
-use rooms::find::all_rooms;
+use rooms::split::Split;
 use std::alloc::Global;
 use sums::memory::Memory;
 use sums::row::RowForms;
@@ -18,10 +18,10 @@ fn found_worth(heap: Global, board: &Board, memory: &mut Memory) -> Result<RowFo
     ensures answer { FoundWorth (grid_of board.now) memory.old.sums memory.new.sums result }
     ensures same { SameMemory memory.old memory.new }
 {
-    let Ok(rooms) = all_rooms(board) else {
+    let Ok(split) = Split::of(board) else {
         unreachable!()
     };
-    board_worth(heap, board, &rooms, memory)
+    board_worth(heap, &split, memory)
 }
 
 // The worth of every board that a plank of this side makes: the first place after which the other side has lost, if there is one. Count where one is

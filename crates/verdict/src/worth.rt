@@ -1,13 +1,10 @@
 // What a board is worth: the form of its rooms beside each other, which tells who wins.
 ghost use Rattle.std.specs.Prelude.{◌≡◌};
-ghost use Rattle.board.specs.Values.{grid_of};
-ghost use Rattle.rooms.specs.Values.{rooms_of, SmallRooms};
 ghost use Rattle.sums.specs.Values.{SameMemory};
 ghost use Rattle.verdict.specs.Worths.{WorthAnswer};
 
-use board::board::Board;
 use canonical::canonical::Refusal;
-use rooms::list::Rooms;
+use rooms::split::Split;
 use std::alloc::Global;
 use sums::memory::Memory;
 use sums::row::RowForms;
@@ -34,21 +31,15 @@ impl From<Refusal> for Failure {
 }
 
 // The worth of a board. Forms of other boards may fill the table before its own are found; then it is begun anew for this board alone.
-pub fn board_worth(
-    heap: Global,
-    board: &Board,
-    rooms: &Rooms,
-    memory: &mut Memory,
-) -> Result<RowForms, Failure>
-    requires { SmallRooms (grid_of board.now) (rooms_of rooms.now) }
-    ensures answer { WorthAnswer (grid_of board.now) (rooms_of rooms.now) memory.old.sums memory.new.sums result }
+pub fn board_worth(heap: Global, split: &Split, memory: &mut Memory) -> Result<RowForms, Failure>
+    ensures answer { WorthAnswer split.now.board split.now.rooms memory.old.sums memory.new.sums result }
     ensures same { SameMemory memory.old memory.new }
 {
-    match memory.row_of_rooms(heap, board, rooms) {
+    match memory.row_of_rooms(heap, split) {
         Ok(row) => return Ok(row),
         Err(Refusal::Full) => memory.sums.clear(),
         Err(Refusal::Wide) => return Err(Failure::Count),
         Err(Refusal::NoMemory) => return Err(Failure::NoMemory),
     }
-    Ok(memory.row_of_rooms(heap, board, rooms)?)
+    Ok(memory.row_of_rooms(heap, split)?)
 }
