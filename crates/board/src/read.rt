@@ -6,6 +6,7 @@ ghost use Rattle.board.specs.Values.{side_of, grid_of};
 use crate::board::Board;
 use crate::refusal::Refusal;
 use crate::side::Side;
+use std::array;
 
 // A board to judge, and the side to move on it.
 #[derive(Clone, Copy)]
@@ -73,11 +74,7 @@ fn cells(squares: &[u8]) -> [bool; 256]
     requires { length squares.now ≤ 256 }
     ensures { take (length squares.now) result ≡ map is_free squares.now }
 {
-    let mut free = [false; 256];
-    for (i, c) in squares.iter().enumerate() {
-        free[i] = *c == b'.';
-    }
-    free
+    array::from_fn(|i| squares.get(i) == Some(&b'.'))
 }
 
 // The check of the squares of a file whose first bytes and length are right.
