@@ -111,7 +111,11 @@ fn is_row(forms: &Forms, k: u16, rows: Rows) -> bool
     requires { k < length forms.now.forms }
     ensures { Decides result (IsRow forms.now.forms forms.now.options rows.entry.upright.now rows.entry.flat.now k) }
 {
-    forms.row(Side::Upright, k) == rows.upright && forms.row(Side::Flat, k) == rows.flat
+    let held = Rows {
+        upright: forms.row(Side::Upright, k),
+        flat: forms.row(Side::Flat, k),
+    };
+    held == rows
 }
 
 // The bucket of two rows.
