@@ -1,5 +1,5 @@
 // The table in lent memory: begun, looked up in, and grown. Forms whose rows fall into one bucket are linked, each to the one before it.
-ghost use Rattle.std.specs.Prelude.{◌≡◌, ℕ, ◌+◌, ◌*◌, ◌%◌, ◌<◌, ◌≤◌, true, false, length, take, drop, Decides, slice_index_or};
+ghost use Rattle.std.specs.Prelude.{◌≡◌, ℕ, ◌+◌, ◌%◌, ◌<◌, ◌≤◌, true, false, length, take, drop, Decides, slice_index_or};
 ghost use Rattle.forms.specs.Rows.{blank};
 ghost use Rattle.forms.specs.Links.{mixed, bucket_of};
 ghost use Rattle.forms.specs.Growth.{IsRow, Found, Fresh, Started, Begun};
@@ -134,13 +134,8 @@ fn mix(start: u32, row: &[u16]) -> u32
     ensures value { result ≡ mixed start row.now }
     ensures bound { result < 65521 }
 {
-    row.iter().fold(
-        start,
-        |sum, x|
-            requires { sum < 65521 }
-            ensures { result ≡ (sum * 40503 + x.now + 1) % 65521 }
-        { (sum * 40503 + *x as u32 + 1) % 65521 },
-    )
+    row.iter()
+        .fold(start, |sum, x| (sum * 40503 + *x as u32 + 1) % 65521)
 }
 
 // Writes two rows into the 32 places of a form.
