@@ -1,4 +1,5 @@
 -- Lemmas.
+pub mod Calls
 pub mod Cells
 pub mod Laying
 pub mod Squares

@@ -1,30 +1,15 @@
 -- Looking a row up along the links of its bucket.
-use Rattle.std.proofs.Common.{◌≡◌, ℕ, suc, ◌+◌, ◌*◌, ◌%◌, ◌<◌, ◌≤◌, Bool, true, false, List, length, get_or, take, drop, Decides, refl, sym, ◌∙◌, subst, arith}
-use Rattle.std.proofs.lemmas.List.{at_drop_more, at_drop_all, length-take-le}
-use Rattle.std.proofs.lemmas.Bool.{both_ways}
+use Rattle.std.proofs.Common.{◌≡◌, ℕ, suc, ◌+◌, ◌*◌, ◌%◌, ◌<◌, ◌≤◌, true, false, List, [], ◌∷◌, ◌++◌, length, take, refl, sym, ◌∙◌, subst, arith}
+use Rattle.std.proofs.lemmas.List.{length-take-le}
 use Rattle.forms.specs.declared.rows.Form.{Form}
-use Rattle.forms.specs.Rows.{row_of, row_for}
+use Rattle.forms.specs.Rows.{row_of}
 use Rattle.forms.specs.Links.{mixed, bucket_of, head_of, next_at, Leads, here, on, Table}
 use Rattle.forms.specs.Growth.{IsRow}
 
 -- one entry more is mixed in
-pub mixed_more : (start : ℕ) (xs : List ℕ) (i sum : ℕ) → i < length xs → mixed sum (drop i xs) ≡ mixed start xs →
-    mixed ((sum * 40503 + get_or xs i 0 + 1) % 65521) (drop (i + 1) xs) ≡ mixed start xs
-mixed_more start xs i sum h e = sym (at_drop_more (mixed sum) xs i 0 h) ∙ e
-
-pub mixed_all : (start : ℕ) (xs : List ℕ) (i sum : ℕ) → length xs ≤ i → mixed sum (drop i xs) ≡ mixed start xs → sum ≡ mixed start xs
-mixed_all start xs i sum h e = sym (at_drop_all (mixed sum) xs i h) ∙ e
-
--- two rows compared, one after the other
-module _ (fs : List Form) (os us ls : List ℕ) (k : ℕ) (xs : List ℕ) (a : Bool) (up : xs ≡ row_of fs os true k) (is_up : Decides a (xs ≡ us)) where
-  pub rows_apart : a ≡ false → (t : Bool) → t ≡ false → Decides t (IsRow fs os us ls k)
-  rows_apart other t e = (λ f. absurd (both_ways t e f), λ is. absurd (both_ways a other (is_up.1 (up ∙ is true))))
-
-  pub rows_same : a ≡ true → (ys : List ℕ) (b : Bool) → ys ≡ row_of fs os false k → Decides b (ys ≡ ls) → Decides b (IsRow fs os us ls k)
-  rows_same same ys b down is_down = (
-    λ e s. elim s as (λ t. row_of fs os t k ≡ row_for t us ls) [ true ↦ sym up ∙ is_up.0 same | false ↦ sym down ∙ is_down.0 e ],
-    λ is. is_down.1 (down ∙ is false),
-  )
+pub mixed_push : (start : ℕ) (xs : List ℕ) (x : ℕ) → mixed start (xs ++ x ∷ []) ≡ (mixed start xs * 40503 + x + 1) % 65521
+mixed_push start [] x = refl
+mixed_push start (y ∷ ys) x = mixed_push ((start * 40503 + y + 1) % 65521) ys x
 
 -- how many forms are in use
 pub use_length : (fs : List Form) (os : List ℕ) (n : ℕ) → Table fs os n → length (take n fs) ≡ n

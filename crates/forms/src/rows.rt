@@ -62,7 +62,7 @@ impl<'a> Forms<'a> {
 }
 
 // Two rows of forms, which give a game: what each player may make of it.
-#[derive(Clone, Copy)]
+#[derive(Clone, Copy, PartialEq)]
 pub struct Rows<'a> {
     pub upright: &'a [u16],
     pub flat: &'a [u16],

@@ -112,7 +112,11 @@ fn is_row(forms: &Forms, k: u16, rows: Rows) -> bool
     requires { k < length forms.now.forms }
     ensures { Decides result (IsRow forms.now.forms forms.now.options rows.entry.upright.now rows.entry.flat.now k) }
 {
-    forms.row(Side::Upright, k) == rows.upright && forms.row(Side::Flat, k) == rows.flat
+    let held = Rows {
+        upright: forms.row(Side::Upright, k),
+        flat: forms.row(Side::Flat, k),
+    };
+    held == rows
 }
 
 // The bucket of two rows.
@@ -131,11 +135,8 @@ fn mix(start: u32, row: &[u16]) -> u32
     ensures value { result ≡ mixed start row.now }
     ensures bound { result < 65521 }
 {
-    let mut sum = start;
-    for x in row {
-        sum = (sum * 40503 + *x as u32 + 1) % 65521;
-    }
-    sum
+    row.iter()
+        .fold(start, |sum, x| (sum * 40503 + *x as u32 + 1) % 65521)
 }
 
 // Writes two rows into the 32 places of a form.

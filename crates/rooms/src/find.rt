@@ -75,9 +75,7 @@ pub fn all_rooms(board: &Board) -> Result<Rooms, Refusal>
         if seen[p as usize] {
             continue;
         }
-        let Some(room) = walk(board, p, &mut seen) else {
-            return Err(Refusal::Room(p));
-        };
+        let room = walk(board, p, &mut seen).ok_or(Refusal::Room(p))?;
         if room.squares().len() < FEWEST {
             continue;
         }
