@@ -1,5 +1,4 @@
 -- Lemmas.
-pub mod Calls
 pub mod Cells
 pub mod Laying
 pub mod Squares

@@ -1,7 +1,7 @@
 -- A walk along the bytes of a file that stand for squares.
-use Rattle.std.proofs.Common.{◌≡◌, ℕ, not, ltb, position, MatchOption, Option, subst, refl, ◌+◌, ◌-◌, ◌*◌, ◌<◌, ◌≤◌, Bool, false, List, [], ◌∷◌, map, length, get_or, take, drop, Some, None, sym, ap, ◌∙◌, mul-le-mul, arith}
+use Rattle.std.proofs.Common.{◌≡◌, ℕ, not, ltb, position, MatchOption, Option, subst, refl, ◌+◌, ◌-◌, ◌*◌, ◌<◌, ◌≤◌, Bool, List, [], ◌∷◌, ◌++◌, map, length, get_or, take, drop, set, Some, None, sym, ap, ◌∙◌, mul-le-mul, arith}
 use Rattle.std.proofs.lemmas.List.Sums.{prefix_len-le-length}
-use Rattle.std.proofs.lemmas.List.{ext_get_or, get_or-map, get_or-take, length-map, length-take, length-drop}
+use Rattle.std.proofs.lemmas.List.{take_more_set, map_more, take_all, length-take, length-drop}
 use Rattle.std.proofs.lemmas.Bool.{eq-eqb, cond_both, ltb-true, ltb-false}
 use Rattle.board.specs.declared.refusal.Refusal.TheVariants.{Square}
 use Rattle.board.specs.Grid.{Grid, pick}
@@ -16,13 +16,14 @@ bad_found cs r e =
     (λ t. (refl, ltb-true (bad_at cs) (length cs) t))
     (λ f. let h = ltb-false (bad_at cs) (length cs) f in let k = prefix_len-le-length (λ c. not (not (is_square_byte c))) cs in omega arith))
 
--- the squares that are made, one by one
-pub cells_made : (cs : List ℕ) (free : List Bool) → length cs ≤ length free → ((i : ℕ) → i < length cs → get_or free i false ≡ is_free (get_or cs i 0)) →
-    take (length cs) free ≡ map is_free cs
-cells_made cs free few each =
-    let long : length (take (length cs) free) ≡ length cs = length-take (length cs) free ∙ omega arith in
-    ext_get_or false (take (length cs) free) (map is_free cs) (long ∙ sym (length-map cs is_free))
-    (λ i h. let low : i < length cs = omega (arith, long) in get_or-take (length cs) free i false low ∙ each i low ∙ sym (get_or-map is_free cs i 0 false low))
+-- one square more is written
+pub cells_more : (cs : List ℕ) (i : ℕ) (free : List Bool) → i < length cs → i < length free → take i free ≡ map is_free (take i cs) →
+    take (i + 1) (set free i (is_free (get_or cs i 0))) ≡ map is_free (take (i + 1) cs)
+cells_more cs i free h k e =
+    take_more_set free i (is_free (get_or cs i 0)) k ∙ ap (λ l. l ++ is_free (get_or cs i 0) ∷ []) e ∙ sym (map_more is_free cs i 0 h)
+
+pub cells_all : (cs : List ℕ) (i : ℕ) (free : List Bool) → i ≡ length cs → take i free ≡ map is_free (take i cs) → take (length cs) free ≡ map is_free cs
+cells_all cs i free h e = ap (λ n. take n free) (sym h) ∙ e ∙ ap (map is_free) (take_all i cs (omega arith))
 
 -- the part of a file that its squares are
 module _ (bs : List ℕ) (w h : ℕ) (wide : w ≡ get_or bs 0 0) (high : h ≡ get_or bs 1 0) where

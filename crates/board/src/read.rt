@@ -6,7 +6,6 @@ ghost use Rattle.board.specs.Values.{side_of, grid_of};
 use crate::board::Board;
 use crate::refusal::Refusal;
 use crate::side::Side;
-use std::array;
 
 // A board to judge, and the side to move on it.
 #[derive(Clone, Copy)]
@@ -44,10 +43,24 @@ fn read_head(bytes: &[u8]) -> Result<Head, Refusal>
     ensures { MatchResult result (λ x. Headed bytes.now x.width x.height (side_of x.side)) (λ e. first_failed (head_checks bytes.now) ≡ Some e) }
 {
     let short = Refusal::Length(bytes.len());
-    let width = extent(*bytes.first().ok_or(short)?).ok_or(Refusal::Width)?;
-    let height = extent(*bytes.get(1).ok_or(short)?).ok_or(Refusal::Height)?;
-    let letter = *bytes.get(2).ok_or(short)?;
-    let side = Side::try_from(letter).map_err(|_| Refusal::Letter)?;
+    if bytes.is_empty() {
+        return Err(short);
+    }
+    let Some(width) = extent(bytes[0]) else {
+        return Err(Refusal::Width);
+    };
+    if bytes.len() < 2 {
+        return Err(short);
+    }
+    let Some(height) = extent(bytes[1]) else {
+        return Err(Refusal::Height);
+    };
+    if bytes.len() < 3 {
+        return Err(short);
+    }
+    let Ok(side) = Side::try_from(bytes[2]) else {
+        return Err(Refusal::Letter);
+    };
     Ok(Head {
         width,
         height,
@@ -74,7 +87,11 @@ fn cells(squares: &[u8]) -> [bool; 256]
     requires { length squares.now ≤ 256 }
     ensures { take (length squares.now) result ≡ map is_free squares.now }
 {
-    array::from_fn(|i| squares.get(i) == Some(&b'.'))
+    let mut free = [false; 256];
+    for (i, c) in squares.iter().enumerate() {
+        free[i] = *c == b'.';
+    }
+    free
 }
 
 // The check of the squares of a file whose first bytes and length are right.

@@ -1,12 +1,14 @@
 -- Making the set of some squares, one by one.
-use Rattle.std.proofs.Common.{◌≡◌, ℕ, ◌+◌, ◌^◌, ◌<◌, ◌≤◌, Bool, true, false, ◌&&◌, ◌||◌, eqb, ltb, List, [], ◌∷◌, ◌++◌, length, get_or, take, drop, Option, None, Some, MatchOption, sym, refl, ap, ◌∙◌, subst, ⊎_elim, arith}
+use Rattle.std.proofs.Common.{◌≡◌, ℕ, zero, suc, ◌+◌, ◌^◌, ◌<◌, ◌≤◌, Bool, true, false, ◌&&◌, ◌||◌, eqb, ltb, List, [], ◌∷◌, ◌++◌, length, get_or, slice_index_or, take, drop, Option, None, Some, MatchOption, sym, refl, ap, ◌∙◌, subst, ⊎_elim, arith}
 use lib.Bits.{bit_or}
+use Rattle.std.specs.Fn.{Mut, Called}
+use Rattle.std.specs.Array.{IsFromFnResultFrom}
 use Rattle.std.specs.List.{ContainsAt as Has, position, position_or_len}
 use Rattle.std.proofs.lemmas.List.{at_drop_more, take_more}
 use Rattle.std.proofs.lemmas.List.Quantifiers.{position-Some}
 use Rattle.std.proofs.lemmas.List.Sums.{fails_before_first}
 use Rattle.std.proofs.lemmas.Grind.{common_steps}
-use Rattle.std.proofs.lemmas.Bool.{cases_Bool, both_ways, eqb-true, eq-eqb, lt-ltb, ltb-true}
+use Rattle.std.proofs.lemmas.Bool.{cases_Bool, cases_lt, both_ways, eqb-true, eq-eqb, lt-ltb, ltb-true}
 use Rattle.std.proofs.ByRecursion.{has_get_or}
 use Rattle.rooms.specs.Games.{among}
 use Rattle.rooms.specs.Walks.{Rise}
@@ -92,3 +94,14 @@ module _ (b : Grid) (qs : List ℕ) (s : Side) (q : ℕ) where
   move_fit ps set e h =
       subst (λ t. MatchOption set (t ≡ false) (λ m. (t ≡ true) × Holds qs (covered b s q) m)) (sym (ap (λ t. t && all_among (covered b s q) qs) e.0))
       (subst (λ l. MatchOption set (all_among l qs ≡ false) (λ m. (all_among l qs ≡ true) × Holds qs l m)) e.1 h)
+
+-- what holds of each call holds of each thing that calls with the numbers from i on gave, if they leave the function as it is
+module _ {F B : Type 0} (g : Mut F (ℕ × Unit {0}) B) (f : F) (P : ℕ → B → Type 0) (one : (i : ℕ) (y : B) (q : F) → Called g f (i, tt) y q → P i y × (q ≡ f)) where
+  pub each_called : (ys : List B) (i n : ℕ) → IsFromFnResultFrom g f ys i n → (k : ℕ) (d : B) → i ≤ k → k < i + n → P k (slice_index_or ys k d)
+  each_called ys i zero all k d low high = absurd (omega arith)
+  each_called ys i (suc n) all k d low high =
+      let this = one i all.1 all.0 all.3 in
+      ⊎_elim
+      (λ later. each_called ys (i + 1) n (subst (λ p. IsFromFnResultFrom g p ys (i + 1) n) this.1 all.4) k d (omega arith) (omega arith))
+      (λ here. let same : i ≡ k = omega arith in subst (λ j. P j (slice_index_or ys j d)) same (subst (P i) (sym (all.2.1 d)) this.0))
+      (cases_lt i k)

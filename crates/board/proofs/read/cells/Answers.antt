@@ -1,11 +1,10 @@
-use Rattle.std.proofs.Common.{rules, ◌≡◌, ◌<◌, length, slice_index, false, arith}
-use Rattle.board.specs.Reading.{is_free}
-use Rattle.board.proofs.Calls.{each_called}
-use Rattle.board.proofs.Squares.{cells_made}
+use Rattle.std.proofs.Common.{◌∙◌, arith}
+use Rattle.std.proofs.lemmas.List.{length-set}
+use Rattle.board.proofs.Squares.{cells_more, cells_all}
 use Rattle.board.proofs.read.cells.Goals as goal
 
+pub loop-i-preserved : goal.loop-i-preserved
+loop-i-preserved c = (length-set c.loop-i.free _ _ ∙ c.loop-i.invariant.0, cells_more c.args.squares.now _ c.loop-i.free c.loop-i-test.true (omega arith) c.loop-i.invariant.1)
+
 pub returns : goal.returns
-returns c =
-    let all = c.from_fn.ensures.items in
-    cells_made c.args.squares.now c.from_fn.result (let long = all.long in let few = c.requires in omega arith)
-    (λ i low. each_called _ _ (λ k y. k < length c.args.squares.now → y ≡ is_free (slice_index c.args.squares.now k)) (λ k y q h. (λ less. search rules, search rules)) _ 0 256 all.each i false (omega arith) (let few = c.requires in omega arith) low)
+returns c = cells_all c.args.squares.now _ c.loop-i.free (omega arith) c.loop-i.invariant.1

@@ -2,8 +2,8 @@ use Rattle.std.proofs.Common.{rules, ◌^◌, ◌<◌, length, None, IfSome, sli
 use Rattle.std.proofs.lemmas.List.{get_or_past}
 use Rattle.std.proofs.lemmas.Bool.{cases_lt}
 use Rattle.board.specs.Values.{side_of, grid_of}
-use Rattle.board.proofs.Calls.{each_called}
 use Rattle.positions.specs.Sets.{Move}
+use Rattle.positions.proofs.Making.{each_called}
 use Rattle.positions.proofs.moves.row_of.Goals as goal
 
 pub returns : goal.returns
