@@ -1,9 +1,9 @@
 -- Whether a side may move, from what the move covers; and what a move leaves.
-use Rattle.std.proofs.Common.{Bool, Option, Some, None, MatchOption, IfSome, is_some, subst, ◌≡◌, ℕ, true, false, ◌&&◌, List, length, sym, ap, ◌∙◌}
+use Rattle.std.proofs.Common.{Bool, Option, Some, None, MatchOption, subst, ◌≡◌, ℕ, true, false, ◌&&◌, List, length, sym, ap, ◌∙◌}
+use Rattle.std.specs.Bool.{then_some}
 use Rattle.board.specs.Grid.{Grid, Side}
 use Rattle.board.specs.Moves.{covers, fits, each_free, without, may, laid}
-use Rattle.board.specs.Values.{grid_of, Covered, LaidAt}
-use Rattle.board.specs.declared.board.Board.{Board}
+use Rattle.board.specs.Values.{Covered}
 
 module _ (b : Grid) (s : Side) (p : ℕ) where
   -- what does not fit may not be laid
@@ -26,11 +26,15 @@ module _ (b : Grid) (s : Side) (p : ℕ) where
   may_if_free None r Said covered e means = e ∙ sym (may_unfit covered)
   may_if_free (Some qs) r Said covered e means = means qs e ∙ sym (may_fit qs covered)
 
-  pub laid_nowhere : (o : Option (List ℕ)) → o ≡ None → Covered b s p o → may b s p ≡ false
-  laid_nowhere o e covered = may_unfit (subst (Covered b s p) e covered)
-
-  -- the board after it, if all squares that it covers are free
-  pub laid_if_free : (qs : List ℕ) (t : Bool) (r : Option Board) (Said : Board → Type 0) → Covered b s p (Some qs) → t ≡ each_free b qs → is_some r ≡ t →
-      IfSome r Said → ((n : Board) → Said n → grid_of n ≡ without b qs) → LaidAt b s p r
-  laid_if_free qs t None Said covered free some e means = may_fit qs covered ∙ sym free ∙ sym some
-  laid_if_free qs t (Some n) Said covered free some e means = (may_fit qs covered ∙ sym free ∙ sym some, means n e ∙ laid_without qs covered.1)
+  -- the squares that it covers, if it fits and all of them are free
+  pub covered_if_free : (o r : Option (List ℕ)) (Said : List ℕ → Bool → Type 0) → Covered b s p o → MatchOption o (r ≡ None) (λ qs. (t : Bool) × Said qs t × (r ≡ then_some t qs)) →
+      ((qs : List ℕ) (t : Bool) → Said qs t → t ≡ each_free b qs) →
+      MatchOption r (may b s p ≡ false) (λ qs. (may b s p ≡ true) × (qs ≡ covers b.width (length b.cells) s p))
+  covered_if_free None r Said covered e means =
+      subst (λ r. MatchOption r (may b s p ≡ false) (λ qs. (may b s p ≡ true) × (qs ≡ covers b.width (length b.cells) s p))) (sym e) (may_unfit covered)
+  covered_if_free (Some qs) r Said covered (true, said, e) means =
+      subst (λ r. MatchOption r (may b s p ≡ false) (λ qs. (may b s p ≡ true) × (qs ≡ covers b.width (length b.cells) s p))) (sym e)
+      (may_fit qs covered ∙ sym (means qs true said), covered.1)
+  covered_if_free (Some qs) r Said covered (false, said, e) means =
+      subst (λ r. MatchOption r (may b s p ≡ false) (λ qs. (may b s p ≡ true) × (qs ≡ covers b.width (length b.cells) s p))) (sym e)
+      (may_fit qs covered ∙ sym (means qs false said))

@@ -27,7 +27,8 @@ impl Board {
     pub fn may(&self, side: Side, place: u16) -> bool
         ensures { result ≡ may (grid_of self.now) (side_of side) place }
     {
-        self.covers(side, place).is_some_and(
+        self.covers(side, place).map_or(
+            false,
             |squares|
                 ensures { result ≡ each_free (grid_of self.entry.now) squares }
             { self.all_free(&squares) },
@@ -38,8 +39,10 @@ impl Board {
     pub fn lay(&self, side: Side, place: u16) -> Option<Board>
         ensures { LaidAt (grid_of self.now) (side_of side) place result }
     {
-        let squares = self.covers(side, place)?;
-        self.all_free(&squares).then(|| self.without(&squares))
+        let squares = self
+            .covers(side, place)
+            .filter(|squares| self.all_free(squares))?;
+        Some(self.without(&squares))
     }
 
     // The squares that a move covers, or None where it would leave the board or its row.

@@ -27,13 +27,14 @@ impl Given<'_> {
         requires { k < length self.now.forms.forms }
         ensures { Tells result (side_of side) (game_of self.now.forms k) (game_given self.now) }
     {
+        let them = side.other();
         let own = self.row(side, k);
         for x in own {
-            if self.within(side.other(), *x) {
+            if self.within(them, *x) {
                 return false;
             }
         }
-        let replies = self.of(side.other());
+        let replies = self.of(them);
         for y in replies {
             if worse(&self.forms, side, *y, k) {
                 return false;
@@ -47,7 +48,8 @@ impl Given<'_> {
         requires { x < length self.now.forms.forms }
         ensures { Reply self.now.forms.forms self.now.forms.options (side_of side) x (game_given self.now) result }
     {
-        let replies = self.row(side.other(), x);
+        let them = side.other();
+        let replies = self.row(them, x);
         for y in replies {
             if self.within(side, *y) {
                 return Some(*y);

@@ -3,6 +3,7 @@
 ghost use Rattle.std.specs.Prelude.{◌≡◌, ◌<◌, length};
 ghost use Rattle.board.specs.Values.{side_of};
 ghost use Rattle.forms.specs.Rows.{row_of, row_for};
+ghost use Rattle.forms.specs.Soundness.{Sound};
 ghost use Rattle.forms.specs.Values.{IsSound};
 
 use board::side::Side;
@@ -25,6 +26,20 @@ pub const BLANK: Form = Form {
     head: None,
     next: None,
 };
+
+// The options of form k for a side. They are lent from the options alone.
+pub fn row<'a>(forms: &[Form], options: &'a [u16], side: Side, k: u16) -> &'a [u16]
+    requires sound { Sound forms.now options.now }
+    requires known { k < length forms.now }
+    ensures { result.now ≡ row_of forms.now options.now (side_of side) k }
+{
+    let form = forms[k as usize];
+    let start = 32 * k as usize;
+    match side {
+        Side::Upright => &options[start..start + form.upright as usize],
+        Side::Flat => &options[start + 16..start + 16 + form.flat as usize],
+    }
+}
 
 // Sound forms to be read, and the memory in which their options stand.
 #[derive(Drop)]
@@ -52,12 +67,7 @@ impl<'a> Forms<'a> {
         ensures row { result.now ≡ row_of self.now.forms self.now.options (side_of side) k }
         ensures sound { IsSound self.now }
     {
-        let form = self.forms[k as usize];
-        let start = 32 * k as usize;
-        match side {
-            Side::Upright => &self.options[start..start + form.upright as usize],
-            Side::Flat => &self.options[start + 16..start + 16 + form.flat as usize],
-        }
+        row(self.forms, self.options, side, k)
     }
 }
 

@@ -1,7 +1,7 @@
 // The table in lent memory: begun, looked up in, and grown. Forms whose rows fall into one bucket are linked, each to the one before it.
 ghost use Rattle.std.specs.Prelude.{◌≡◌, ℕ, ◌+◌, ◌%◌, ◌<◌, ◌≤◌, true, false, length, take, drop, Decides, slice_index_or};
 ghost use Rattle.forms.specs.Rows.{blank};
-ghost use Rattle.forms.specs.Links.{mixed, bucket_of};
+ghost use Rattle.forms.specs.Links.{mixed, bucket_of, Table as Holds};
 ghost use Rattle.forms.specs.Growth.{IsRow, Found, Fresh, Started, Begun};
 ghost use Rattle.forms.specs.Values.{IsTable, in_use, SameRows, Stays, BegunIn};
 
@@ -58,16 +58,7 @@ impl<'a> Table<'a> {
     pub fn find(&self, rows: Rows) -> Option<u16>
         ensures { Found (in_use self.now) self.now.options.now rows.entry.upright.now rows.entry.flat.now result }
     {
-        let in_use = self.in_use();
-        let mut link = self.forms[bucket(self.forms.len(), rows)].head;
-        // a walk along the links of a bucket, which stand in the forms themselves
-        while let Some(k) = link {
-            if is_row(&in_use, k, rows) {
-                return Some(k);
-            }
-            link = self.forms[k as usize].next;
-        }
-        None
+        find(self.forms, self.options, self.used, rows)
     }
 
     // Adds a form with these two rows as the next one, and gives its number.
@@ -105,6 +96,26 @@ impl<'a> Table<'a> {
     {
         self.used = begin(self.forms);
     }
+}
+
+// The form in use that has these two rows, or None where no form has them. The rows of the table are read alone.
+pub fn find(forms: &[Form], options: &[u16], used: u16, rows: Rows) -> Option<u16>
+    requires { Holds forms.now options.now used }
+    ensures { Found (take used forms.now) options.now rows.entry.upright.now rows.entry.flat.now result }
+{
+    let in_use = Forms {
+        forms: &forms[..used as usize],
+        options,
+    };
+    let mut link = forms[bucket(forms.len(), rows)].head;
+    // a walk along the links of a bucket, which stand in the forms themselves
+    while let Some(k) = link {
+        if is_row(&in_use, k, rows) {
+            return Some(k);
+        }
+        link = forms[k as usize].next;
+    }
+    None
 }
 
 // Does form k have these two rows.

@@ -5,4 +5,4 @@ use Rattle.board.proofs.board.Board.may.Goals as goal
 
 pub returns : goal.returns
 returns c =
-    may_if_free (grid_of c.args.self.now) (side_of c.args.side) c.args.place c.covers.result _ _ c.covers.ensures c.is_some_and.ensures (λ qs k. search (rules, tests))
+    may_if_free (grid_of c.args.self.now) (side_of c.args.side) c.args.place c.covers.result _ _ c.covers.ensures c.map_or.ensures (λ qs k. search (rules, tests))

@@ -22,7 +22,7 @@ within-requires t c =
 pub returns-then-within : goal.returns-then-within
 returns-then-within t c =
     not_by_own c.args.self.now.forms.forms c.args.self.now.forms.options c.row-own.ensures.sound c.args.self.now.rows.upright.now c.args.self.now.rows.flat.now (side_of c.args.side) c.args.k c.requires
-    _ c.row-own.ensures.row c.loop-x.x-index c.loop-x-test.true (subst (λ t. Worse t (game_of c.args.self.now.forms (get_or c.row-own.result.now c.loop-x.x-index 0)) (game_given c.args.self.now)) c.other.ensures c.if-within.ensures)
+    _ c.row-own.ensures.row c.loop-x.x-index c.loop-x-test.true (subst (λ t. Worse t (game_of c.args.self.now.forms (get_or c.row-own.result.now c.loop-x.x-index 0)) (game_given c.args.self.now)) c.other-them.ensures c.if-within.ensures)
 
 pub loop-x-preserved : goal.loop-x-preserved
 loop-x-preserved t c =
@@ -30,20 +30,20 @@ loop-x-preserved t c =
     let x = get_or c.row-own.result.now c.loop-x.x-index 0 in
     All-more (λ x. NotWorse (side_of c.args.side) g (meaning c.args.self.now.forms.forms c.args.self.now.forms.options x)) c.row-own.result.now c.loop-x.x-index 0 c.loop-x-test.true c.loop-x.invariant
     (turn_not (side_of c.args.side) (meaning c.args.self.now.forms.forms c.args.self.now.forms.options x) g
-    (subst (λ t. NotWorse t (game_of c.args.self.now.forms x) (game_given c.args.self.now)) c.other.ensures c.if-within.ensures))
+    (subst (λ t. NotWorse t (game_of c.args.self.now.forms x) (game_given c.args.self.now)) c.other-them.ensures c.if-within.ensures))
 
 pub worse-requires : goal.worse-requires
 worse-requires t c =
     record {
       first = subst (λ f. get_or c.of-replies.result.now c.loop-y.y-index 0 < length f.forms) (λ i. (sym c.self.view_is i).forms)
-          (known_at c.args.self.now.forms.forms c.args.self.now.rows.upright.now c.args.self.now.rows.flat.now c.of-replies.ensures.known (other (side_of c.args.side)) _ (subst (λ t. c.of-replies.result.now ≡ row_for t c.args.self.now.rows.upright.now c.args.self.now.rows.flat.now) c.other-2.ensures c.of-replies.ensures.row) c.loop-y.y-index c.loop-y-test.true);
+          (known_at c.args.self.now.forms.forms c.args.self.now.rows.upright.now c.args.self.now.rows.flat.now c.of-replies.ensures.known (other (side_of c.args.side)) _ (subst (λ t. c.of-replies.result.now ≡ row_for t c.args.self.now.rows.upright.now c.args.self.now.rows.flat.now) c.other-them.ensures c.of-replies.ensures.row) c.loop-y.y-index c.loop-y-test.true);
       second = subst (λ f. c.args.k < length f.forms) (λ i. (sym c.self.view_is i).forms) c.requires;
     }
 
 pub returns-then-worse : goal.returns-then-worse
 returns-then-worse t c =
     not_by_given c.args.self.now.forms.forms c.args.self.now.forms.options c.row-own.ensures.sound c.args.self.now.rows.upright.now c.args.self.now.rows.flat.now (side_of c.args.side) c.args.k c.requires
-    _ (subst (λ t. c.of-replies.result.now ≡ row_for t c.args.self.now.rows.upright.now c.args.self.now.rows.flat.now) c.other-2.ensures c.of-replies.ensures.row) c.loop-y.y-index c.loop-y-test.true
+    _ (subst (λ t. c.of-replies.result.now ≡ row_for t c.args.self.now.rows.upright.now c.args.self.now.rows.flat.now) c.other-them.ensures c.of-replies.ensures.row) c.loop-y.y-index c.loop-y-test.true
     (subst (λ f. Worse (side_of c.args.side) (game_of f (get_or c.of-replies.result.now c.loop-y.y-index 0)) (game_of f c.args.k)) (λ i. (c.self.view_is i).forms) c.if-worse.ensures)
 
 pub loop-y-preserved : goal.loop-y-preserved
@@ -60,4 +60,4 @@ returns t c =
     let g = given fs os c.args.self.now.rows.upright.now c.args.self.now.rows.flat.now in
     within_all fs os c.row-own.ensures.sound c.args.self.now.rows.upright.now c.args.self.now.rows.flat.now s c.args.k c.requires
     (walked (λ x. NotWorse s g (meaning fs os x)) _ _ c.row-own.ensures.row c.loop-x.x-index (omega arith) c.loop-x.invariant)
-    (walked (λ y. NotWorse s (meaning fs os y) (meaning fs os c.args.k)) _ _ (subst (λ t. c.of-replies.result.now ≡ row_for t c.args.self.now.rows.upright.now c.args.self.now.rows.flat.now) c.other-2.ensures c.of-replies.ensures.row) c.loop-y.y-index (omega arith) c.loop-y.invariant)
+    (walked (λ y. NotWorse s (meaning fs os y) (meaning fs os c.args.k)) _ _ (subst (λ t. c.of-replies.result.now ≡ row_for t c.args.self.now.rows.upright.now c.args.self.now.rows.flat.now) c.other-them.ensures c.of-replies.ensures.row) c.loop-y.y-index (omega arith) c.loop-y.invariant)

@@ -12,7 +12,7 @@ use Rattle.canonical.proofs.given.Given.reply.Goals as goal
 
 pub within-requires : goal.within-requires
 within-requires c =
-    let low = option_below c.args.self.now.forms.forms c.args.self.now.forms.options (other (side_of c.args.side)) c.args.x c.row-replies.ensures.sound c.requires _ (subst (λ t. c.row-replies.result.now ≡ row_of c.args.self.now.forms.forms c.args.self.now.forms.options t c.args.x) c.other.ensures c.row-replies.ensures.row) c.loop-y.y-index c.loop-y-test.true in
+    let low = option_below c.args.self.now.forms.forms c.args.self.now.forms.options (other (side_of c.args.side)) c.args.x c.row-replies.ensures.sound c.requires _ (subst (λ t. c.row-replies.result.now ≡ row_of c.args.self.now.forms.forms c.args.self.now.forms.options t c.args.x) c.other-them.ensures c.row-replies.ensures.row) c.loop-y.y-index c.loop-y-test.true in
     let known : get_or c.row-replies.result.now c.loop-y.y-index 0 < length c.args.self.now.forms.forms = omega arith in
     known
 
@@ -21,8 +21,8 @@ returns-then-within c =
     let fs = c.args.self.now.forms.forms in
     let os = c.args.self.now.forms.options in
     let s = other (side_of c.args.side) in (
-      option_below fs os s c.args.x c.row-replies.ensures.sound c.requires _ (subst (λ t. c.row-replies.result.now ≡ row_of c.args.self.now.forms.forms c.args.self.now.forms.options t c.args.x) c.other.ensures c.row-replies.ensures.row) c.loop-y.y-index c.loop-y-test.true,
-      option_at fs os c.row-replies.ensures.sound s c.args.x c.requires _ (subst (λ t. c.row-replies.result.now ≡ row_of c.args.self.now.forms.forms c.args.self.now.forms.options t c.args.x) c.other.ensures c.row-replies.ensures.row) c.loop-y.y-index c.loop-y-test.true,
+      option_below fs os s c.args.x c.row-replies.ensures.sound c.requires _ (subst (λ t. c.row-replies.result.now ≡ row_of c.args.self.now.forms.forms c.args.self.now.forms.options t c.args.x) c.other-them.ensures c.row-replies.ensures.row) c.loop-y.y-index c.loop-y-test.true,
+      option_at fs os c.row-replies.ensures.sound s c.args.x c.requires _ (subst (λ t. c.row-replies.result.now ≡ row_of c.args.self.now.forms.forms c.args.self.now.forms.options t c.args.x) c.other-them.ensures c.row-replies.ensures.row) c.loop-y.y-index c.loop-y-test.true,
       c.if-within.ensures,
     )
 
@@ -38,4 +38,4 @@ returns c =
     let s = (side_of c.args.side) in
     let g = given fs os c.args.self.now.rows.upright.now c.args.self.now.rows.flat.now in
     of_row fs os c.row-replies.ensures.sound (λ y. NotWorse s y g) (other s) c.args.x c.requires
-    (walked (λ y. NotWorse s (meaning fs os y) g) _ _ (subst (λ t. c.row-replies.result.now ≡ row_of c.args.self.now.forms.forms c.args.self.now.forms.options t c.args.x) c.other.ensures c.row-replies.ensures.row) c.loop-y.y-index (omega arith) c.loop-y.invariant)
+    (walked (λ y. NotWorse s (meaning fs os y) g) _ _ (subst (λ t. c.row-replies.result.now ≡ row_of c.args.self.now.forms.forms c.args.self.now.forms.options t c.args.x) c.other-them.ensures c.row-replies.ensures.row) c.loop-y.y-index (omega arith) c.loop-y.invariant)
