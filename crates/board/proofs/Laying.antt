@@ -26,15 +26,13 @@ module _ (b : Grid) (s : Side) (p : ℕ) where
   may_if_free None r Said covered e means = e ∙ sym (may_unfit covered)
   may_if_free (Some qs) r Said covered e means = means qs e ∙ sym (may_fit qs covered)
 
+  -- it may be laid and covers these squares, or it may not
+  abbrev MayCover : Option (List ℕ) → Type 0
+  MayCover r = MatchOption r (may b s p ≡ false) (λ qs. (may b s p ≡ true) × (qs ≡ covers b.width (length b.cells) s p))
+
   -- the squares that it covers, if it fits and all of them are free
   pub covered_if_free : (o r : Option (List ℕ)) (Said : List ℕ → Bool → Type 0) → Covered b s p o → MatchOption o (r ≡ None) (λ qs. (t : Bool) × Said qs t × (r ≡ then_some t qs)) →
-      ((qs : List ℕ) (t : Bool) → Said qs t → t ≡ each_free b qs) →
-      MatchOption r (may b s p ≡ false) (λ qs. (may b s p ≡ true) × (qs ≡ covers b.width (length b.cells) s p))
-  covered_if_free None r Said covered e means =
-      subst (λ r. MatchOption r (may b s p ≡ false) (λ qs. (may b s p ≡ true) × (qs ≡ covers b.width (length b.cells) s p))) (sym e) (may_unfit covered)
-  covered_if_free (Some qs) r Said covered (true, said, e) means =
-      subst (λ r. MatchOption r (may b s p ≡ false) (λ qs. (may b s p ≡ true) × (qs ≡ covers b.width (length b.cells) s p))) (sym e)
-      (may_fit qs covered ∙ sym (means qs true said), covered.1)
-  covered_if_free (Some qs) r Said covered (false, said, e) means =
-      subst (λ r. MatchOption r (may b s p ≡ false) (λ qs. (may b s p ≡ true) × (qs ≡ covers b.width (length b.cells) s p))) (sym e)
-      (may_fit qs covered ∙ sym (means qs false said))
+      ((qs : List ℕ) (t : Bool) → Said qs t → t ≡ each_free b qs) → MayCover r
+  covered_if_free None r Said covered e means = subst MayCover (sym e) (may_unfit covered)
+  covered_if_free (Some qs) r Said covered (true, said, e) means = subst MayCover (sym e) (may_fit qs covered ∙ sym (means qs true said), covered.1)
+  covered_if_free (Some qs) r Said covered (false, said, e) means = subst MayCover (sym e) (may_fit qs covered ∙ sym (means qs false said))

@@ -98,7 +98,7 @@ impl<'a> Table<'a> {
     }
 }
 
-// The form in use that has these two rows, or None where no form has them. The rows of the table are read alone.
+// The form in use that has these two rows, or None where no form has them. The rows that hold the table are only read.
 pub fn find(forms: &[Form], options: &[u16], used: u16, rows: Rows) -> Option<u16>
     requires { Holds forms.now options.now used }
     ensures { Found (take used forms.now) options.now rows.entry.upright.now rows.entry.flat.now result }

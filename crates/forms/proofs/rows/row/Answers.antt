@@ -1,5 +1,4 @@
-use Rattle.std.proofs.Common.{true, false, ap, ◌∙◌, sym, arith}
-use Rattle.forms.specs.Rows.{row_of}
+use Rattle.std.proofs.Common.{true, false, arith}
 use Rattle.forms.proofs.Places.{part_is, part_within}
 use Rattle.forms.proofs.rows.row.Goals as goal
 
